@@ -1,6 +1,6 @@
-//! How a program of your own uses the engine: it runs a script and tells which statements were refused, asks what was
-//! paid in March as the books had it on two days, and adds up the rows of each answer. Then it tells which tables are
-//! there and which kinds an answer's columns have, puts values into statements, and reads them back.
+//! An example program that uses the engine as a library. It runs a script and prints the refused statements. Then it
+//! queries the payments as the table had them at the end of March and now, and adds up the rows of each answer. It also
+//! prints the tables and the kinds of a query's columns, puts values into statements, and reads them back.
 #![tactic(auto)]
 
 mod values;
@@ -12,10 +12,10 @@ use tql::{
     date_text, is_day, literal, memory_within, read_date, run,
 };
 
-/// How many bytes of memory the engine may have in use.
+/// The maximal number of bytes of memory that the engine may have in use.
 const MOST_BYTES: usize = 64 << 20;
 
-/// What the office entered, and when; the last line has a slip of the pen.
+/// The script, with the moments of entry. The last line has a misspelt table name.
 const ENTERED: &[u8] = b"
 CREATE TABLE pay (employee INTEGER, cents INTEGER, s TIMESTAMP GENERATED ALWAYS AS ROW START,
   e TIMESTAMP GENERATED ALWAYS AS ROW END, PERIOD FOR SYSTEM_TIME (s, e)) WITH SYSTEM VERSIONING;
@@ -27,13 +27,13 @@ INSERT INTO pay VALUES (2, 12000);
 INSERT INTO play VALUES (3, 8000);
 ";
 
-/// The questions: the books at the end of March, and now.
+/// The queries: the table as of the end of March, and now.
 const QUESTIONS: [&[u8]; 2] = [
     b"SELECT * FROM pay FOR SYSTEM_TIME AS OF TIMESTAMP '2011-03-31 23:59:59'",
     b"SELECT * FROM pay",
 ];
 
-/// The sum of a column of whole numbers, by its number from 0; other values count as nothing.
+/// Returns the sum of a column of whole numbers, by its number from 0. Other values are ignored.
 fn total(table: &ResultTable, column: usize) -> i64 {
     let mut total = 0i64;
     for row in &table.rows {
@@ -44,7 +44,7 @@ fn total(table: &ResultTable, column: usize) -> i64 {
     total
 }
 
-/// Prints how many rows a question finds, and the sum of their cents.
+/// Prints the number of rows that a query returns, and the sum of their cents.
 fn ask(rt: &impl Print, engine: &mut Engine, question: &[u8]) -> io::Result<()> {
     match &engine.step(question) {
         Reply::Table(table) => println!(rt;
@@ -57,7 +57,7 @@ fn ask(rt: &impl Print, engine: &mut Engine, question: &[u8]) -> io::Result<()> 
     }
 }
 
-/// Says what is known of each refusal: what is wrong, and what to write.
+/// Prints the detail of each refusal: what is wrong, and the hint.
 fn say_details(rt: &impl Print, notes: &Notes) -> io::Result<()> {
     for told in &notes.told {
         let words = told.detail.words.as_str();
@@ -70,7 +70,7 @@ fn say_details(rt: &impl Print, notes: &Notes) -> io::Result<()> {
     Ok(())
 }
 
-/// Enters the payments, and says which statements were refused and how many there were.
+/// Runs the script, and prints the refused statements and the number of all statements.
 fn enter(rt: &impl Print, memory: Memory, engine: &mut Engine) -> io::Result<()> {
     let mut source = SliceSource::new(ENTERED);
     let mut sink = VecSink::new(Vec::new(memory));
@@ -92,7 +92,7 @@ fn enter(rt: &impl Print, memory: Memory, engine: &mut Engine) -> io::Result<()>
     }
 }
 
-/// What a kind is called.
+/// Returns the name of a kind.
 fn kind_name(kind: Kind) -> &'static str {
     match kind {
         Kind::Int => "integer",
@@ -111,7 +111,7 @@ fn print_table(rt: &impl Print, definition: &TableDef) -> io::Result<()> {
     println!(rt; "")
 }
 
-/// Prints the tables that are there.
+/// Prints all tables.
 fn print_tables(rt: &impl Print, engine: &Engine) -> io::Result<()> {
     for place in 0..engine.table_count() {
         if let Some(definition) = engine.table_definition(place) {
@@ -121,7 +121,7 @@ fn print_tables(rt: &impl Print, engine: &Engine) -> io::Result<()> {
     Ok(())
 }
 
-/// Prints the kinds of the columns that a question's answer has.
+/// Prints the kinds of a query's columns.
 fn print_kinds(rt: &impl Print, engine: &Engine, question: &[u8]) -> io::Result<()> {
     match &engine.column_kinds(question) {
         Ok(Some(kinds)) => {
@@ -136,7 +136,7 @@ fn print_kinds(rt: &impl Print, engine: &Engine, question: &[u8]) -> io::Result<
     }
 }
 
-/// Enters a note of a day. What the clerk wrote is put into the statement as a literal, whatever stands in it.
+/// Inserts a note of a day. The words become a literal of the statement, whatever characters they contain.
 fn enter_note(
     rt: &impl Print,
     memory: Memory,

@@ -25,7 +25,7 @@ const VALUES: [View<'static>; 18] = [
     View::Moment(1_301_562_000_000_001),
 ];
 
-/// The column for a value of its kind.
+/// Returns the column for a value of its kind.
 fn column_for(value: View<'_>) -> &'static str {
     match value {
         View::Null | View::Int(_) => "number",
@@ -35,7 +35,7 @@ fn column_for(value: View<'_>) -> &'static str {
     }
 }
 
-/// The statement that enters a value.
+/// Returns the statement that inserts a value.
 fn entering(memory: Memory, column: &str, value: &str) -> Result<String<Memory>, AllocError> {
     let mut statement = String::from_str(memory, "INSERT INTO kept (")?;
     statement.push_str(column)?;
@@ -45,7 +45,7 @@ fn entering(memory: Memory, column: &str, value: &str) -> Result<String<Memory>,
     Ok(statement)
 }
 
-/// The question for a column.
+/// Returns the query of a column.
 fn asking(memory: Memory, column: &str) -> Result<String<Memory>, AllocError> {
     let mut question = String::from_str(memory, "SELECT ")?;
     question.push_str(column)?;
@@ -53,7 +53,7 @@ fn asking(memory: Memory, column: &str) -> Result<String<Memory>, AllocError> {
     Ok(question)
 }
 
-/// Whether a table has this value alone.
+/// Whether a table has this value as its only cell.
 fn has_alone(table: &ResultTable, value: View<'_>) -> bool {
     match table.rows.as_slice() {
         [row] => match row.as_slice() {
@@ -64,7 +64,7 @@ fn has_alone(table: &ResultTable, value: View<'_>) -> bool {
     }
 }
 
-/// Whether a value comes back that its literal puts into a statement.
+/// Whether a value that is inserted by its literal is read back unchanged.
 fn comes_back(memory: Memory, engine: &mut Engine, value: View<'_>) -> Result<bool, AllocError> {
     if !is_printable(value) {
         return Ok(false);
@@ -82,7 +82,7 @@ fn comes_back(memory: Memory, engine: &mut Engine, value: View<'_>) -> Result<bo
     }
 }
 
-/// Prints how many of the values come back.
+/// Prints how many of the values are read back unchanged.
 pub(crate) fn read_back(rt: &impl Print, memory: Memory, engine: &mut Engine) -> io::Result<()> {
     let _made = engine.step(
         b"CREATE TABLE kept (number INTEGER, words VARCHAR(80), day DATE, moment TIMESTAMP)",

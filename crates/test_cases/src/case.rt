@@ -1,5 +1,5 @@
-//! A case: a script `NAME.sql`, and what it prints: run in `NAME.out`, checked in `NAME.check.out`, checked with its
-//! neighbours in `NAME.marks`; and in `NAME.err` what is told of its refused statements.
+//! A case: a script `NAME.sql` and its expected outputs. `NAME.out` has the output of a run, `NAME.check.out` that of a
+//! check, `NAME.marks` that of a check with neighbours, and `NAME.err` the diagnostics of its refused statements.
 use crate::compare::text_difference;
 use crate::complaints::{complaints_fault, telling_fault};
 use crate::growths::{growth_fault, turn_fault};
@@ -11,22 +11,22 @@ use std::alloc::{AllocError, Global};
 use std::fs;
 use std::io::{self, ErrorKind};
 
-/// What the first line of a script asks for, behind `-- cases:`.
+/// The directives in the first line of a script, after `-- cases:`.
 #[derive(Clone, Copy, PartialEq, Eq, Debug)]
 struct Directives {
-    /// The script is given whole alone, and not in pieces of 1, 2, 3 and 7 bytes too.
+    /// The script is given only as a whole, and not also in pieces of 1, 2, 3 and 7 bytes.
     is_whole: bool,
-    /// Each growth of the run is refused in turn, each in runs of its own.
+    /// Each allocation of the run is made to fail, in order, each in runs of its own.
     by_growths: bool,
-    /// Each growth of each statement is refused in turn, all on one engine.
+    /// Each allocation of each statement is made to fail, in order, all on one engine.
     in_turn: bool,
-    /// The script and its listed texts are in the short form.
+    /// The script and its expected outputs are in the short form.
     is_short: bool,
-    /// The last statement of the run makes at most so many growths.
+    /// The maximal number of allocations in the last statement of the run.
     most_growths: Option<u64>,
 }
 
-/// The words of the first line, if it begins with `-- cases:`.
+/// Returns the words of the first line after `-- cases:`, if it begins so.
 fn asked(script: &[u8]) -> &str {
     let end = script.iter().position(|byte| *byte == b'\n');
     let line = script.get(..end.unwrap_or(0)).unwrap_or(b"");
@@ -34,14 +34,14 @@ fn asked(script: &[u8]) -> &str {
     text.strip_prefix("-- cases:").unwrap_or("")
 }
 
-/// The number N of a word `growths<=N`.
+/// Parses the number N of a word `growths<=N`.
 fn bound_in(word: &str) -> io::Result<u64> {
     let bound = word.strip_prefix("growths<=").unwrap_or("");
     let number = bound.parse();
     number.map_err(|_| io::Error::from(ErrorKind::InvalidInput))
 }
 
-/// What the first line of a script asks for.
+/// Parses the directives in the first line of a script.
 fn directives_in(script: &[u8]) -> io::Result<Directives> {
     let mut found = Directives {
         is_whole: false,
@@ -62,7 +62,7 @@ fn directives_in(script: &[u8]) -> io::Result<Directives> {
     Ok(found)
 }
 
-/// The bytes of a file; None where it is not there.
+/// Reads the bytes of a file; None if it does not exist.
 fn bytes_of(rt: &HostRuntime, base: &str, ending: &str) -> io::Result<Option<Vec<u8>>> {
     let path = format!(in rt.alloc(); "{base}{ending}")?;
     match fs::read(rt, path.as_str()) {
@@ -72,7 +72,7 @@ fn bytes_of(rt: &HostRuntime, base: &str, ending: &str) -> io::Result<Option<Vec
     }
 }
 
-/// Where a run did not end well, or its text is not the listed one.
+/// Reports a run that did not end well, or whose output is not the expected one.
 fn outcome_fault(alloc: Global, outcome: &Outcome, listed: &[u8]) -> io::Result<Option<String>> {
     if outcome.ended_well() {
         Ok(text_difference(alloc, listed, &outcome.text)?)
@@ -81,7 +81,7 @@ fn outcome_fault(alloc: Global, outcome: &Outcome, listed: &[u8]) -> io::Result<
     }
 }
 
-/// Where the text of a script that is given in pieces of so many bytes is not the listed one.
+/// Reports where the output of a script, given in pieces of `size` bytes, is not the expected one.
 fn text_fault(
     alloc: Global,
     answering: Answering,
@@ -93,7 +93,7 @@ fn text_fault(
     outcome_fault(alloc, &outcome, listed)
 }
 
-/// `text_fault` for a script that is run whole by an engine that keeps its periods in lists.
+/// Does `text_fault` for a script that is run whole by an engine that keeps its periods in lists.
 fn lists_fault(alloc: Global, script: &[u8], listed: &[u8]) -> io::Result<Option<String>> {
     let outcome = run_over_lists(alloc, script)?;
     match outcome_fault(alloc, &outcome, listed)? {
@@ -102,7 +102,7 @@ fn lists_fault(alloc: Global, script: &[u8], listed: &[u8]) -> io::Result<Option
     }
 }
 
-/// `text_fault` for pieces of each size.
+/// Does `text_fault` for pieces of each size.
 fn pieces_fault(
     alloc: Global,
     answering: Answering,
@@ -117,7 +117,7 @@ fn pieces_fault(
     Ok(None)
 }
 
-/// Where a script differs from what is listed, whole, and by its directives.
+/// Reports where the output of a script differs from the expected one, as a whole and in the ways of its directives.
 fn listed_fault(
     alloc: Global,
     answering: Answering,
@@ -148,7 +148,7 @@ fn listed_fault(
     Ok(fault)
 }
 
-/// Where what is told of a script's refused statements is not what is listed, or changes what is answered.
+/// Reports where the diagnostics of a script are not the expected ones, or where writing them changes its replies.
 fn told_fault(alloc: Global, script: &Script, listed: &[u8]) -> io::Result<Option<String>> {
     let mut fault = complaints_fault(alloc, &script.bytes, listed)?;
     if fault.is_none() && script.directives.by_growths {
@@ -157,18 +157,18 @@ fn told_fault(alloc: Global, script: &Script, listed: &[u8]) -> io::Result<Optio
     Ok(fault)
 }
 
-/// What is compared with a listed text.
+/// An output that is compared with an expected one.
 #[derive(Clone, Copy, PartialEq, Eq, Debug)]
 enum Listing {
-    /// What a run or a check prints.
+    /// The output of a run or a check.
     Text(Answering),
-    /// What is told of the refused statements of a run.
+    /// The diagnostics of the refused statements of a run.
     Complaints,
-    /// Which neighbours of its statements are statements.
+    /// The marks that say which neighbours of its statements are statements.
     Marks,
 }
 
-/// What can be listed, and how the names of the files that list it end.
+/// The outputs, and the endings of the names of their files.
 const LISTINGS: [(Listing, &str); 4] = [
     (Listing::Text(Answering::Run), ".out"),
     (Listing::Complaints, ".err"),
@@ -176,14 +176,14 @@ const LISTINGS: [(Listing, &str); 4] = [
     (Listing::Marks, ".marks"),
 ];
 
-/// A script, and what its first line asks for.
+/// A script, and the directives in its first line.
 #[derive(Drop)]
 struct Script {
     bytes: Vec<u8>,
     directives: Directives,
 }
 
-/// A script or a listed text, written out where it is in the short form.
+/// Returns a script or an expected output, expanded if it is in the short form.
 fn spelled(alloc: Global, directives: Directives, bytes: Vec<u8>) -> Result<Vec<u8>, AllocError> {
     if directives.is_short {
         written_out(alloc, &bytes)
@@ -192,7 +192,7 @@ fn spelled(alloc: Global, directives: Directives, bytes: Vec<u8>) -> Result<Vec<
     }
 }
 
-/// The script of a case, which has to be there.
+/// Reads the script of a case, which must exist.
 fn script_of(rt: &HostRuntime, base: &str) -> io::Result<Script> {
     let path = format!(in rt.alloc(); "{base}.sql")?;
     let bytes = fs::read(rt, path.as_str())?;
@@ -201,7 +201,7 @@ fn script_of(rt: &HostRuntime, base: &str) -> io::Result<Script> {
     Ok(Script { bytes, directives })
 }
 
-/// Where a script differs from what is listed.
+/// Reports where a script's output differs from the expected one.
 fn fault_in(
     alloc: Global,
     script: &Script,
@@ -228,7 +228,7 @@ fn fault_in(
     }
 }
 
-/// Where a case differs from what is listed; None where it does not. The growths that were refused are counted.
+/// Reports where a case differs from its expected outputs; None if it does not. Counts the failed allocations.
 pub fn fault_of(
     rt: &HostRuntime,
     folder: &str,

@@ -1,10 +1,10 @@
-//! Where a text first differs from the one that is listed.
+//! The first difference between an output and the expected one.
 use std::alloc::{AllocError, Global};
 
-/// What stands for a line behind the last one.
+/// The text shown in place of a line after the last one.
 const END: &str = "(the end)";
 
-/// A line of two texts at which they differ.
+/// A line at which two texts differ.
 #[derive(Clone, Copy, Debug)]
 struct Difference<'a> {
     line: u64,
@@ -12,7 +12,7 @@ struct Difference<'a> {
     found: &'a str,
 }
 
-/// The first line at which two texts differ; texts of the same lines differ behind the last one.
+/// Returns the first line at which two texts differ. Texts with the same lines differ after the last one.
 fn first_difference<'a>(expected: &'a str, found: &'a str) -> Difference<'a> {
     let mut line = 1u64;
     let mut lines = found.lines();
@@ -34,7 +34,7 @@ fn first_difference<'a>(expected: &'a str, found: &'a str) -> Difference<'a> {
     }
 }
 
-/// Tells where a text first differs from the listed one; None where it does not.
+/// Reports where an output first differs from the expected one; None if it does not.
 pub fn text_difference(
     alloc: Global,
     listed: &[u8],

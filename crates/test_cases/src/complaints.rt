@@ -1,4 +1,4 @@
-//! What is told of the refused statements of a script, as the program tells it on the standard error.
+//! The diagnostics of the refused statements of a script, as the program writes them to the standard error.
 ghost use Rattle.std.specs.Prelude.{None};
 
 use crate::compare::text_difference;
@@ -15,15 +15,16 @@ use tql_run::pushed::Pushed;
 use tql_run::slice_source::SliceSource;
 use tql_value::refusal::Refusal;
 
-/// The bytes of a piece, where growths are refused.
+/// The size of a piece in bytes, in runs with failed allocations.
 const PIECE: usize = 7;
 
-/// More growths than what is told of one statement makes, and than a script of the cases that is run for each.
+/// More allocations than the diagnostics of one statement make, and more than any script that is run for each
+/// allocation makes.
 const MOST_TOLD: u64 = 64;
 
 const MOST_GROWTHS: u64 = 20_000;
 
-/// A listener that writes a line for each refused statement. A line that finds no memory is cut off.
+/// A listener that writes a line for each refused statement. A line for which there is no memory is left out.
 #[derive(Drop)]
 struct Lines {
     text: String,
@@ -68,7 +69,7 @@ impl Listener for Lines {
     fn answered(&mut self, _answer: &Answer, _pushed: &Pushed) {}
 }
 
-/// What a run told, what it wrote, and how many of the blocks that it was granted are left.
+/// The diagnostics of a run, its output, and the number of allocations that were granted and not made.
 #[derive(Drop)]
 struct Telling {
     lines: String,
@@ -76,7 +77,7 @@ struct Telling {
     left: u64,
 }
 
-/// Runs a script on a new engine in pieces of so many bytes and in so many blocks of memory, with what is told of it.
+/// Runs a script on a new engine, in pieces of `size` bytes and with `granted` allocations, and collects diagnostics.
 fn run_told(
     alloc: Global,
     script: &[u8],
@@ -98,7 +99,7 @@ fn run_told(
     })
 }
 
-/// Where what is told of a script's refused statements is not what is listed, whole or in pieces of a byte.
+/// Reports where the diagnostics of a script, whole or in pieces of a byte, are not the expected ones.
 pub fn complaints_fault(
     alloc: Global,
     script: &[u8],
@@ -113,7 +114,8 @@ pub fn complaints_fault(
     Ok(None)
 }
 
-/// Whether a script is answered as it is where nothing is told, in so many blocks of memory, and leaves as many.
+/// Whether a script with `granted` allocations has the same replies with diagnostics as without, and leaves the same
+/// number of allocations.
 fn is_answered_alike(alloc: Global, script: &[u8], granted: u64) -> Result<bool, AllocError> {
     let told = run_told(alloc, script, PIECE, granted)?;
     let silent = answer(
@@ -126,7 +128,8 @@ fn is_answered_alike(alloc: Global, script: &[u8], granted: u64) -> Result<bool,
     Ok(told.left == silent.left && told.text.as_slice() == silent.text.as_slice())
 }
 
-/// Where telling changes what is answered, with each growth refused in turn, those of what is told among them.
+/// Reports where diagnostics change the replies of a script, with each allocation made to fail, in order, including
+/// those for the diagnostics.
 pub fn telling_fault(alloc: Global, script: &[u8]) -> Result<Option<String>, AllocError> {
     let told = run_told(alloc, script, PIECE, u64::MAX)?;
     let most = u64::MAX - told.left;

@@ -1,9 +1,9 @@
-//! The names of a folder's files, and of the cases that they belong to.
+//! The names of a folder's files, and of the cases to which they belong.
 use std::alloc::{AllocError, Global};
 use std::rt::Files;
 use std::{fs, io};
 
-/// The names in a folder, sorted by their bytes.
+/// Returns the names in a folder, sorted by their bytes.
 pub fn names_in(rt: &HostRuntime, folder: &str) -> io::Result<Vec<String>> {
     let mut names = Vec::new(rt.alloc());
     for entry in fs::read_dir(rt, folder)? {
@@ -13,8 +13,8 @@ pub fn names_in(rt: &HostRuntime, folder: &str) -> io::Result<Vec<String>> {
     Ok(names)
 }
 
-/// The case that a file belongs to: its name without the ending of a script or of what is listed. A file with another
-/// ending is a case of its own, for which there is no script.
+/// Returns the case of a file: its name without the ending of a script or of an expected output. A file with another
+/// ending is a case of its own, which has no script.
 fn case_of(file: &str) -> &str {
     for ending in [".sql", ".check.out", ".out", ".err", ".marks"] {
         if let Some(case) = file.strip_suffix(ending) {
@@ -24,7 +24,7 @@ fn case_of(file: &str) -> &str {
     file
 }
 
-/// The names of the cases that these files belong to, each once. The files' names are sorted.
+/// Returns the names of the cases of these files, each once. The names of the files must be sorted.
 pub fn case_names(alloc: Global, files: &[String]) -> Result<Vec<&str>, AllocError> {
     let mut cases = Vec::new(alloc);
     for file in files {

@@ -1,8 +1,9 @@
-//! Runs of a script in which each growth is refused in turn, in four ways: no memory is granted from there on; or the
-//! statement that met it is tried again with memory; or it is refused alone, and all later ones are granted; or, on one
-//! engine, each statement is tried with no growth granted, with one, and so on, and then with its first refused alone,
-//! with its second, and so on. A statement that finds no memory has changed nothing: tried again with memory, it and
-//! all later ones are answered as they are listed; and not tried again, all later ones are as if it had not been there.
+//! Runs of a script in which each allocation is made to fail, in order, in four ways. (1) All later allocations fail
+//! too. (2) The statement is tried again with memory. (3) Only this allocation fails. (4) On one engine, each statement
+//! is tried with no allocation granted, with one, and so on; then with only its first one failing, and so on.
+//!
+//! A statement that runs out of memory has changed nothing. If it is tried again with memory, it and all later ones
+//! have the expected replies. Otherwise all later ones have the replies that they have without it.
 use crate::compare::text_difference;
 use crate::runs::{Answering, Granted, answer};
 use crate::steps::{Manner, NO_MEMORY, NOT_UTF8, Replies, TOO_LONG, UNFINISHED, step_all};
@@ -10,29 +11,29 @@ use std::alloc::{AllocError, Global};
 use std::io;
 use tql_run::runner::Fault;
 
-/// What a COMMIT and a ROLLBACK are answered, and either where no transaction is open.
+/// The replies to COMMIT and ROLLBACK, and the reply to both if no transaction is open.
 const COMMITTED: &[u8] = b"COMMIT\n";
 
 const ROLLED_BACK: &[u8] = b"ROLLBACK\n";
 
 const NOT_OPEN: &[u8] = b"REFUSED E40 not in this transaction state\n";
 
-/// What is told of the bytes alone, which takes no memory.
+/// The replies that depend on the bytes alone, which take no memory.
 const OF_BYTES: [&[u8]; 3] = [TOO_LONG, NOT_UTF8, UNFINISHED];
 
-/// More growths than a script of the cases makes that is run for each of them.
+/// More allocations than any script makes that is run for each allocation.
 const MOST_GROWTHS: u64 = 20_000;
 
-/// The listed text of a script.
+/// The expected output of a script.
 #[derive(Drop)]
 struct Listed<'a> {
     text: &'a [u8],
-    /// Where in it no reply has been given yet, and where each ends.
+    /// The start of the first reply, and the end of each.
     ends: Vec<usize>,
 }
 
 impl Listed<'_> {
-    /// What a statement is answered; nothing where there is none.
+    /// Returns the reply to a statement; empty if the statement does not exist.
     fn reply(&self, statement: usize) -> &[u8] {
         match self.ends.get(statement..statement.saturating_add(2)) {
             Some([from, to]) => self.text.get(*from..*to).unwrap_or(&[]),
@@ -40,7 +41,7 @@ impl Listed<'_> {
         }
     }
 
-    /// What the statements behind one are answered.
+    /// Returns the replies after that of a statement.
     fn behind(&self, statement: usize) -> &[u8] {
         match self.ends.get(statement.saturating_add(1)) {
             Some(from) => self.text.get(*from..).unwrap_or(&[]),
@@ -49,7 +50,7 @@ impl Listed<'_> {
     }
 }
 
-/// Where each line of a text ends, and before them its beginning.
+/// Returns the start of a text and the end of each line.
 fn line_ends(alloc: Global, text: &[u8]) -> Result<Vec<usize>, AllocError> {
     let mut ends = vec![in alloc; 0]?;
     for (at, byte) in text.iter().enumerate() {
@@ -60,7 +61,7 @@ fn line_ends(alloc: Global, text: &[u8]) -> Result<Vec<usize>, AllocError> {
     Ok(ends)
 }
 
-/// Where the replies end in the listed text of a script. A check answers each statement with a line.
+/// Returns the start and the ends of the replies in the expected output. A check answers each statement with a line.
 fn reply_ends(
     alloc: Global,
     answering: Answering,
@@ -73,14 +74,14 @@ fn reply_ends(
     }
 }
 
-/// Whether what is listed may be answered without memory: of a COMMIT and a ROLLBACK, and of what is told of the bytes.
+/// Whether the expected reply may be given without memory: those to COMMIT and ROLLBACK, and those about the bytes.
 fn takes_no_memory(listed: &[u8]) -> bool {
     listed == COMMITTED || listed == ROLLED_BACK || listed == NOT_OPEN || OF_BYTES.contains(&listed)
 }
 
-/// What lies behind the reply to a statement that found no memory: it is answered that there is none. A COMMIT and a
-/// ROLLBACK take none: they are answered as listed, or that no transaction is open. What is told of the bytes takes
-/// none either, but a text of over 65,536 bytes may not have found it.
+/// Returns the output after the reply to a statement that ran without memory; None if the reply is wrong. The reply is
+/// that memory ran out. COMMIT and ROLLBACK take no memory: their reply is the expected one, or that no transaction is
+/// open. Replies about the bytes take none either, but reading a text of over 65,536 bytes may have failed.
 fn behind_refusal<'a>(listed: &[u8], text: &'a [u8]) -> Option<&'a [u8]> {
     if listed == COMMITTED || listed == ROLLED_BACK {
         return text
@@ -95,8 +96,8 @@ fn behind_refusal<'a>(listed: &[u8], text: &'a [u8]) -> Option<&'a [u8]> {
     text.strip_prefix(NO_MEMORY)
 }
 
-/// Whether a text has the first of the listed replies, and then for each other statement what it is answered without
-/// memory.
+/// Whether each reply of an output is the expected one up to some statement, and from there on one that a statement has
+/// without memory.
 fn is_beginning(listed: &Listed<'_>, text: &[u8]) -> bool {
     let mut left = text;
     let mut has_memory = true;
@@ -118,18 +119,18 @@ fn is_beginning(listed: &Listed<'_>, text: &[u8]) -> bool {
     left.is_empty()
 }
 
-/// What a run in so much memory shows.
+/// The result of a run with limited memory.
 #[derive(Clone, Copy, PartialEq, Eq, Debug)]
 enum Sweep {
-    /// All that was granted was asked for, and what was answered is right.
+    /// All granted allocations were made, and the replies are right.
     UsedUp,
-    /// There was more than enough memory, and each statement is answered as it is listed.
+    /// There was more than enough memory, and each statement has the expected reply.
     Ended,
     /// A reply is wrong, or lost.
     Differs,
 }
 
-/// Runs a script that is granted so many growths, and no further one.
+/// Runs a script with `granted` allocations and no more.
 fn run_in(
     alloc: Global,
     answering: Answering,
@@ -154,8 +155,8 @@ fn run_in(
     }
 }
 
-/// What the statements behind one are answered where that one is not there. A check keeps no state: they are answered
-/// as they are listed.
+/// Returns the replies to the statements after a statement that is left out. A check keeps no state, so they are the
+/// expected ones.
 fn behind_unseen(
     alloc: Global,
     answering: Answering,
@@ -178,8 +179,8 @@ fn behind_unseen(
     }
 }
 
-/// The first statement that a text does not answer as it is listed, and the text from there on; None where it answers
-/// all so.
+/// Returns the first statement whose reply is not the expected one, and the output from there on; None if all replies
+/// are expected.
 fn first_differing<'a>(listed: &Listed<'_>, text: &'a [u8]) -> Option<(usize, &'a [u8])> {
     let mut left = text;
     for statement in 0..listed.ends.len().saturating_sub(1) {
@@ -191,16 +192,16 @@ fn first_differing<'a>(listed: &Listed<'_>, text: &'a [u8]) -> Option<(usize, &'
     None
 }
 
-/// What a statement leaves to those behind it that found no memory: how they are answered where it is not there. The
-/// last one asked for is kept, since growths are refused in the order of the statements.
+/// The replies to the statements after a statement that is left out. Only the last one is kept, since allocations are
+/// made to fail in the order of the statements.
 #[derive(Drop)]
 struct Unseen {
     statement: usize,
     behind: Vec<u8>,
 }
 
-/// Whether a text is what a script may be answered that one growth is refused of: all as it is listed; or a statement
-/// that there is no memory, and those behind it as if it were not there. A COMMIT and a ROLLBACK take no memory.
+/// Whether an output is right for a script with one failed allocation. All replies are the expected ones; or one
+/// statement runs out of memory, and later ones are answered as without it. COMMIT and ROLLBACK take no memory.
 fn is_without_one(
     alloc: Global,
     answering: Answering,
@@ -222,7 +223,7 @@ fn is_without_one(
     Ok(takes_memory && left.strip_prefix(NO_MEMORY) == Some(unseen.behind.as_slice()))
 }
 
-/// Runs a script that is refused one growth, behind so many others, and granted all later ones.
+/// Runs a script in which only the allocation after the first `before` ones fails.
 fn run_without(
     alloc: Global,
     answering: Answering,
@@ -250,8 +251,8 @@ fn run_without(
     }
 }
 
-/// Whether a script is answered as it is listed that is refused a growth, and granted more only once the statement that
-/// met it is tried again. A check keeps no state, and needs no such test.
+/// Whether a script has the expected replies if an allocation fails and its statement is tried again with memory. A
+/// check keeps no state, so it does not need this test.
 fn is_retried_well(
     alloc: Global,
     answering: Answering,
@@ -268,8 +269,8 @@ fn is_retried_well(
     }
 }
 
-/// Refuses a script's first growth, then its second, and so on, until there is more memory than it asks for; tells at
-/// which one a reply is wrong, and counts those that were refused.
+/// Makes a script's first allocation fail, then its second, and so on, until the script makes fewer. Reports the one at
+/// which a reply is wrong, and counts the failed allocations.
 pub fn growth_fault(
     alloc: Global,
     answering: Answering,
@@ -300,8 +301,8 @@ pub fn growth_fault(
     Ok(Some(String::from_str(alloc, "does not end its growths")?))
 }
 
-/// Tries each statement of a script with no growth granted, with one, and so on, until it finds memory; tells where it
-/// is then answered otherwise than it is listed, and counts the growths that were refused.
+/// Tries each statement of a script with no allocation granted, with one, and so on, until it has enough. Then does so
+/// with one failing allocation. Reports an unexpected reply, and counts the failed allocations.
 pub fn turn_fault(
     alloc: Global,
     script: &[u8],

@@ -1,7 +1,7 @@
-//! The cases: scripts as data, each with the text that it prints. The program runs every case of the folders in
-//! `cases/`, and prints a line a case: its name and `ok`, or where it first differs from what is listed.
+//! The cases: scripts as data, each with its expected outputs. The program runs every case of the folders in `cases/`
+//! and prints a line for each: its name and `ok`, or where it first differs from the expected output.
 //!
-//! It exits with 0 where no case differs, and with 1 else.
+//! It exits with 0 if no case differs, and with 1 otherwise.
 #![tactic(auto)]
 
 mod case;
@@ -19,10 +19,10 @@ use crate::folder::{case_names, names_in};
 use std::io;
 use std::process::ExitCode;
 
-/// The folder whose folders hold the cases.
+/// The folder whose subfolders contain the cases.
 const CASES: &str = "cases";
 
-/// Prints what became of a case, and tells whether it is well.
+/// Prints the result of a case, and returns whether it passed.
 fn report(
     rt: &impl Print,
     folder: &str,
@@ -37,8 +37,8 @@ fn report(
     Ok(matches!(fault, Ok(None)))
 }
 
-/// Runs the cases of a folder, in the order of their names, and tells whether all are well. The growths that were
-/// refused are counted.
+/// Runs the cases of a folder, in the order of their names, and returns whether all passed. Counts the failed
+/// allocations.
 fn run_folder(rt: &HostRuntime, folder: &str, refused: &mut u64) -> io::Result<bool> {
     let path = format!(in rt.alloc(); "{CASES}/{folder}")?;
     let files = names_in(rt, path.as_str())?;
@@ -50,8 +50,8 @@ fn run_folder(rt: &HostRuntime, folder: &str, refused: &mut u64) -> io::Result<b
     Ok(are_well)
 }
 
-/// Runs all cases, folder by folder, and tells whether all are well. How many growths were refused goes to the standard
-/// error, which no gate compares.
+/// Runs all cases, folder by folder, and returns whether all passed. The number of failed allocations is written to the
+/// standard error, which no gate compares.
 fn run_all(rt: &HostRuntime) -> io::Result<bool> {
     let mut are_well = true;
     let mut refused = 0u64;

@@ -1,9 +1,9 @@
-//! Statements and what stands one token off: each token left out, doubled, and put behind the next one.
+//! Statements and their neighbours, which differ by one token: it is left out, doubled, or swapped with the next one.
 use crate::runs::{Granted, check_only};
 use std::alloc::{AllocError, Global};
 use std::io;
 
-/// A step to a neighbour of a statement, at one of its tokens.
+/// A change of a statement at one of its tokens.
 #[derive(Clone, Copy, PartialEq, Eq, Debug)]
 enum Step {
     Kept,
@@ -12,7 +12,7 @@ enum Step {
     Swapped,
 }
 
-/// The place whose token stands here after a step at `changed`, or that none does.
+/// Returns the index from which the token at `place` comes after a step at `changed`; None if there is none.
 fn place_after(step: Step, place: usize, changed: usize) -> Option<usize> {
     match step {
         Step::Without if place >= changed => place.checked_add(1),
@@ -23,7 +23,7 @@ fn place_after(step: Step, place: usize, changed: usize) -> Option<usize> {
     }
 }
 
-/// Puts the statement after a step behind a script.
+/// Appends the statement after a step to a script.
 fn push_neighbour(
     script: &mut String,
     tokens: &[&str],
@@ -39,7 +39,7 @@ fn push_neighbour(
     script.push_str(";\n")
 }
 
-/// The neighbours of a statement by one step, as a script.
+/// Returns the neighbours of a statement by one step, as a script.
 fn neighbours(alloc: Global, tokens: &[&str], step: Step) -> Result<String, AllocError> {
     let count = match step {
         Step::Kept => 1,
@@ -53,7 +53,7 @@ fn neighbours(alloc: Global, tokens: &[&str], step: Step) -> Result<String, Allo
     Ok(script)
 }
 
-/// A mark for a reply: `x` where the text is a statement, `.` where it is none.
+/// Returns the mark for a reply: `x` if the text is a statement, `.` if it is none, and `?` for another reply.
 fn mark(reply: &str) -> char {
     match reply {
         "OK" => 'x',
@@ -62,7 +62,7 @@ fn mark(reply: &str) -> char {
     }
 }
 
-/// Puts a mark for each statement of a script behind some marks; `-` where it has none.
+/// Appends a mark for each statement of a script; `-` if it has none.
 fn push_marks(alloc: Global, marks: &mut String, script: &str) -> io::Result<()> {
     let text = check_only(alloc, script.as_bytes(), usize::MAX, Granted::All)?.text;
     if text.is_empty() {
@@ -74,7 +74,7 @@ fn push_marks(alloc: Global, marks: &mut String, script: &str) -> io::Result<()>
     Ok(())
 }
 
-/// Puts the marks of a statement, and of its neighbours by each step, behind some marks, and ends the line.
+/// Appends a line with the marks of a statement and of its neighbours by each step.
 fn push_line(alloc: Global, marks: &mut String, statement: &str) -> io::Result<()> {
     let tokens: Vec<&str> = statement.split(' ').collect(alloc)?;
     for (before, step) in [
@@ -91,8 +91,8 @@ fn push_line(alloc: Global, marks: &mut String, statement: &str) -> io::Result<(
     Ok(())
 }
 
-/// The marks of the statements of a script and of their neighbours, a line a statement. Each line of the script that
-/// is no comment is a statement without its `;`, with a blank between each two tokens.
+/// Returns the marks of the statements of a script and of their neighbours, a line for each statement. Each line of the
+/// script that is no comment is a statement without its `;`, with a blank between each two tokens.
 pub fn marks(alloc: Global, script: &str) -> io::Result<String> {
     let mut marks = String::new(alloc);
     for line in script.lines() {

@@ -12,21 +12,21 @@ use tql_run::runner::{Fault, Summary};
 use tql_run::silence::Silence;
 use tql_run::slice_source::SliceSource;
 
-/// The engine as the program has it.
+/// The engine that the program uses.
 pub type Engine = engine::Engine<TreeIndex>;
 
-/// Which growths of a run are granted.
+/// Which allocations of a run are granted.
 #[derive(Clone, Copy, PartialEq, Eq, Debug)]
 pub enum Granted {
     All,
-    /// So many, and no later one.
+    /// The first n, and no later one.
     First(u64),
-    /// All but the one behind so many.
+    /// All but the one after the first n.
     AllBut(u64),
 }
 
 impl Granted {
-    /// Memory that grants these.
+    /// Returns memory that grants these allocations.
     pub fn memory(self, alloc: Global) -> Result<Memory, AllocError> {
         match self {
             Granted::All => memory(alloc, u64::MAX),
@@ -40,7 +40,7 @@ impl Granted {
     }
 }
 
-/// How a run ended, what it wrote, and how many blocks of memory would be granted to it before one is refused.
+/// The end of a run, its output, and the number of allocations left before one fails.
 #[derive(Drop)]
 pub struct Outcome {
     pub end: Result<Summary, Fault>,
@@ -49,7 +49,7 @@ pub struct Outcome {
 }
 
 impl Outcome {
-    /// How many lines of the text are refusals.
+    /// Returns the number of refusals in the output.
     fn refusals(&self) -> u64 {
         let mut refusals = 0u64;
         for line in str::from_utf8(&self.text).unwrap_or("").lines() {
@@ -60,7 +60,7 @@ impl Outcome {
         refusals
     }
 
-    /// Whether the run came to its end, and counted the refusals that it wrote.
+    /// Whether the run came to its end, and counted the refusals in its output correctly.
     pub fn ended_well(&self) -> bool {
         match self.end {
             Ok(summary) => summary.refused == self.refusals(),
@@ -76,7 +76,7 @@ pub enum Answering {
     Check,
 }
 
-/// Runs a script on a new engine over an index of periods, whole, with these growths granted.
+/// Runs a whole script on a new engine over an index of periods, with these allocations granted.
 fn run_whole<I: IntervalIndex>(
     alloc: Global,
     script: &[u8],
@@ -90,7 +90,7 @@ fn run_whole<I: IntervalIndex>(
     Ok(Outcome { end, text, left })
 }
 
-/// Runs a script on a new engine, in pieces of so many bytes, with these growths granted.
+/// Runs a script on a new engine, in pieces of `size` bytes, with these allocations granted.
 fn run_pieces(
     alloc: Global,
     script: &[u8],
@@ -109,12 +109,12 @@ fn run_pieces(
     })
 }
 
-/// Runs a script on a new engine that keeps its periods in lists, whole.
+/// Runs a whole script on a new engine that keeps its periods in lists.
 pub fn run_over_lists(alloc: Global, script: &[u8]) -> Result<Outcome, AllocError> {
     run_whole::<ListIndex>(alloc, script, Granted::All)
 }
 
-/// Checks the statements of a script, in pieces of so many bytes, with these growths granted.
+/// Checks the statements of a script, in pieces of `size` bytes, with these allocations granted.
 pub fn check_only(
     alloc: Global,
     script: &[u8],
@@ -132,7 +132,7 @@ pub fn check_only(
     })
 }
 
-/// Runs or checks a script: in pieces, or whole where a piece may have any size.
+/// Runs or checks a script in pieces of `size` bytes; `usize::MAX` means the whole script at once.
 pub fn answer(
     alloc: Global,
     answering: Answering,

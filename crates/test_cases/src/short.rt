@@ -1,8 +1,8 @@
-//! Scripts and listed texts in a short form: `{N text}` stands for N times the text, and a `#` in the text for the
-//! number of the time, from 1. Groups stand in groups, two deep at most, and the inner ones are written out first.
+//! The short form of scripts and expected outputs. `{N text}` means N copies of the text, and a `#` in the text is the
+//! number of the copy, from 1. Groups may be nested, two deep at most, and the inner ones are expanded first.
 use std::alloc::{AllocError, Global};
 
-/// A group `{N text}`, and what stands before it.
+/// A group `{N text}`, and the text before it.
 #[derive(Clone, Copy, Debug)]
 struct Group<'a> {
     before: &'a [u8],
@@ -10,7 +10,7 @@ struct Group<'a> {
     text: &'a [u8],
 }
 
-/// The innermost group that ends a part of a text; None where none does.
+/// Returns the innermost group at the end of a part of a text; None if there is none.
 fn group_at_end(part: &[u8]) -> Option<Group<'_>> {
     let open = part.strip_suffix(b"}")?;
     let start = open.iter().rposition(|byte| *byte == b'{')?;
@@ -23,7 +23,7 @@ fn group_at_end(part: &[u8]) -> Option<Group<'_>> {
     })
 }
 
-/// Puts a text behind another one, with a number in the place of each `#`.
+/// Appends a text to another one, with a number in place of each `#`.
 fn push_numbered(whole: &mut Vec<u8>, text: &[u8], number: &str) -> Result<(), AllocError> {
     for part in text.split_inclusive(|byte| *byte == b'#') {
         match part.strip_suffix(b"#") {
@@ -37,7 +37,7 @@ fn push_numbered(whole: &mut Vec<u8>, text: &[u8], number: &str) -> Result<(), A
     Ok(())
 }
 
-/// Puts a text so many times behind another one, each time with its number.
+/// Appends `count` copies of a text to another one, each with its number.
 fn push_times(
     alloc: Global,
     whole: &mut Vec<u8>,
@@ -51,7 +51,7 @@ fn push_times(
     Ok(())
 }
 
-/// A text in which the innermost groups are written out.
+/// Returns a text with the innermost groups expanded.
 fn written_once(alloc: Global, short: &[u8]) -> Result<Vec<u8>, AllocError> {
     let mut whole = Vec::new(alloc);
     for part in short.split_inclusive(|byte| *byte == b'}') {
@@ -72,7 +72,7 @@ fn written_once(alloc: Global, short: &[u8]) -> Result<Vec<u8>, AllocError> {
     Ok(whole)
 }
 
-/// A text in the short form, written out. What is no group stays as it is.
+/// Expands a text in the short form. Everything outside groups stays as it is.
 pub fn written_out(alloc: Global, short: &[u8]) -> Result<Vec<u8>, AllocError> {
     let inner = written_once(alloc, short)?;
     written_once(alloc, &inner)

@@ -1,5 +1,5 @@
-//! What an engine answers to the pieces of a script one by one, where memory is refused and comes back, and how many
-//! growths the last one makes.
+//! The replies of an engine to the pieces of a script, each given by itself, while allocations fail and are granted
+//! again; and the number of allocations that the last piece makes.
 ghost use Rattle.std.specs.Prelude.{◌≡◌, [], OnOk};
 
 use crate::compare::text_difference;
@@ -12,36 +12,35 @@ use tql_memory::{Memory, memory};
 use tql_result::print::write_reply;
 use tql_result::std_sink::StdSink;
 
-/// What a statement is answered that finds no memory.
+/// The reply to a statement that runs out of memory.
 pub const NO_MEMORY: &[u8] = b"REFUSED E01 out of memory\n";
 
-/// What is answered of the bytes alone, which takes no memory.
+/// The replies that depend on the bytes alone, which take no memory.
 pub const TOO_LONG: &[u8] = b"REFUSED E13 statement too long\n";
 
 pub const NOT_UTF8: &[u8] = b"REFUSED E11 not UTF-8\n";
 
 pub const UNFINISHED: &[u8] = b"REFUSED E12 unfinished statement\n";
 
-/// More growths than a statement makes that is tried at each of them.
+/// More allocations than any statement makes that is tried for each allocation.
 const MOST_TRIALS: u64 = 20_000;
 
-/// How often a piece that finds no memory is answered.
+/// How often a piece that runs out of memory is tried.
 #[derive(Clone, Copy, PartialEq, Eq, Debug)]
 pub enum Manner {
     /// Once.
     Once,
-    /// Twice: once more with memory enough.
+    /// Twice: the second time with enough memory.
     Retried,
-    /// With no growth granted, with one, with two, and so on, until it finds memory.
+    /// With no allocation granted, with one, with two, and so on, until it has enough.
     InTurn,
-    /// With its first growth refused and all others granted, with its second, and so on, until it asks for none that is
-    /// refused.
+    /// With only its first allocation failing, with only its second, and so on, until no allocation fails.
     OneInTurn,
-    /// Once, but for the one that stands behind so many others: that is left out.
+    /// Once, except that the piece with this index is left out.
     Without(usize),
 }
 
-/// The text of the reply to a statement.
+/// Returns the text of the reply to a statement.
 fn statement_text(alloc: Global, engine: &mut Engine, statement: &[u8]) -> io::Result<Vec<u8>> {
     let reply = engine.step(statement);
     let mut sink = StdSink::new(Vec::new(alloc));
@@ -51,7 +50,7 @@ fn statement_text(alloc: Global, engine: &mut Engine, statement: &[u8]) -> io::R
     }
 }
 
-/// What a text is answered that no `;` ends.
+/// Returns the reply to a text that no `;` ends.
 fn cut_text(text: &[u8]) -> &'static [u8] {
     match str::from_utf8(text) {
         Ok(_) => UNFINISHED,
@@ -59,7 +58,7 @@ fn cut_text(text: &[u8]) -> &'static [u8] {
     }
 }
 
-/// The text of what a piece is answered.
+/// Returns the text of the reply to a piece.
 fn reply_text(alloc: Global, engine: &mut Engine, piece: Piece<'_>) -> io::Result<Vec<u8>> {
     let told = match piece {
         Piece::Text(statement) => return statement_text(alloc, engine, statement),
@@ -73,25 +72,25 @@ fn reply_text(alloc: Global, engine: &mut Engine, piece: Piece<'_>) -> io::Resul
 /// The replies to the pieces of a script.
 #[derive(Drop)]
 pub struct Replies {
-    /// One behind the other.
+    /// The replies, one after another.
     pub text: Vec<u8>,
-    /// Where in the text none has been given yet, and where each ends.
+    /// The start of the first reply in the text, and the end of each.
     pub ends: Vec<usize>,
-    /// How many growths the last piece made: how many blocks of memory the engine asked for to answer it.
+    /// The number of allocations that the engine made for the last piece.
     pub last_growths: u64,
-    /// How many answers were that there is no memory, and were not the last one of their piece.
+    /// The number of trials with a failed allocation. They are not counted for `Once` and `Without`.
     pub refused: u64,
 }
 
 impl Replies {
-    /// How many pieces have been answered, or left out.
+    /// Returns the number of pieces that were answered or left out.
     fn count(&self) -> usize {
         self.ends.len().saturating_sub(1)
     }
 }
 
-/// What a piece is answered once it is granted enough growths: it is granted none, then one, and so on. One that finds
-/// no memory however many it is granted is answered so.
+/// Returns the reply to a piece that is granted no allocation, then one, and so on, until they are enough. If they
+/// never are, the reply is that memory ran out.
 fn found_in_turn(
     alloc: Global,
     memory: Memory,
@@ -110,8 +109,8 @@ fn found_in_turn(
     Ok(Vec::from_slice(alloc, NO_MEMORY)?)
 }
 
-/// What a piece is answered once no growth of it is refused: its first is refused alone, then its second, and so on.
-/// One that is answered otherwise than that there is no memory has been answered, and is not tried again.
+/// Returns the reply to a piece whose first allocation fails alone, then its second, and so on, until none fails. The
+/// first reply other than that memory ran out is final.
 fn found_with_one_refused(
     alloc: Global,
     memory: Memory,
@@ -131,7 +130,7 @@ fn found_with_one_refused(
     Ok(Vec::from_slice(alloc, NO_MEMORY)?)
 }
 
-/// What a piece is answered in a manner.
+/// Returns the reply to a piece that is tried in this manner.
 fn settled(
     alloc: Global,
     memory: Memory,
@@ -154,7 +153,7 @@ fn settled(
     reply_text(alloc, engine, piece)
 }
 
-/// Answers the pieces that are whole in what was fed, behind what was answered before.
+/// Answers the pieces that are complete in the bytes so far, and appends the replies.
 fn step_fed(
     alloc: Global,
     memory: Memory,
@@ -180,7 +179,7 @@ fn step_fed(
     Ok(())
 }
 
-/// What a new engine that is granted so many growths answers to the pieces of a script, in a manner.
+/// Returns the replies of a new engine to the pieces of a script, with `granted` allocations and in this manner.
 pub fn step_all(alloc: Global, script: &[u8], manner: Manner, granted: u64) -> io::Result<Replies> {
     let mut splitter = Splitter::new(memory(alloc, u64::MAX)?)?;
     let memory = memory(alloc, granted)?;
@@ -214,7 +213,8 @@ pub fn step_all(alloc: Global, script: &[u8], manner: Manner, granted: u64) -> i
     Ok(replies)
 }
 
-/// Tells where the last statement of a script makes more than `most` growths, or a reply differs from the listed one.
+/// Reports a script whose last statement makes more than `most` allocations, or whose replies are not the expected
+/// ones.
 pub fn bound_fault(
     alloc: Global,
     script: &[u8],

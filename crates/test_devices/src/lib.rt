@@ -1,5 +1,5 @@
-//! What the crates of tests share: readers and writers of bytes that give and take so many at once, and fail or end
-//! where they are told to, and an index that refuses memory for each question.
+//! Devices that the test crates share: readers and writers with limited transfers that fail or end at a given call, and
+//! an index that fails every lookup for lack of memory.
 #![tactic(auto)]
 
 pub mod mute;
@@ -7,23 +7,23 @@ pub mod mute;
 use std::alloc::Global;
 use std::io::{self, Error, ErrorKind, Read, Write};
 
-/// What a run of a script meets: its devices, and its memory.
+/// The devices and the memory of a run of a script.
 #[derive(Clone, Copy)]
 pub struct Setting {
-    /// How many bytes a read gives at once, at the most, and how many a write takes.
+    /// The maximal number of bytes that a read returns, and that a write accepts.
     pub size: usize,
     pub taken: usize,
-    /// How many reads give bytes: behind them the input ends, whatever is left.
+    /// The number of reads that return bytes. After them the input ends, whatever is left.
     pub giving: u64,
-    /// How many reads do well, how many writes, and how many flushes.
+    /// The number of reads, of writes and of flushes that succeed.
     pub reads: u64,
     pub writes: u64,
     pub flushes: u64,
-    /// How many blocks of memory are granted.
+    /// The number of allocations that succeed.
     pub granted: u64,
 }
 
-/// Devices that do not fail, and memory that does not end.
+/// Devices that do not fail, and unlimited memory.
 pub const SOUND: Setting = Setting {
     size: usize::MAX,
     taken: usize::MAX,
@@ -35,7 +35,7 @@ pub const SOUND: Setting = Setting {
 };
 
 impl Setting {
-    /// A reader of a script.
+    /// Returns a reader of a script.
     pub fn reader(self, script: &[u8]) -> Chunks<'_> {
         Chunks {
             left: script,
@@ -47,7 +47,7 @@ impl Setting {
         }
     }
 
-    /// A writer that has taken nothing yet.
+    /// Returns an empty writer.
     pub fn writer(self, alloc: Global) -> Kept {
         Kept {
             bytes: Vec::new(alloc),
@@ -60,8 +60,8 @@ impl Setting {
     }
 }
 
-/// A reader of bytes that gives so many at once, fails where it has no reads left, gives none where it has given so
-/// often, and is interrupted so many times before each read.
+/// A reader that returns at most `size` bytes at once. It fails if no reads are left, and reports the end of the input
+/// if `giving_left` is 0. Each read is interrupted `interrupts` times first.
 #[derive(Drop)]
 pub struct Chunks<'a> {
     pub left: &'a [u8],
@@ -95,8 +95,8 @@ impl Read for Chunks<'_> {
     }
 }
 
-/// A writer that takes so many bytes at once, and fails where it has no writes left, or no flushes. It counts the
-/// writes that failed or took none of some bytes, and the flushes that failed.
+/// A writer that accepts at most `size` bytes at once, and fails if no writes, or no flushes, are left. It counts the
+/// writes that failed or accepted none of some bytes, and the flushes that failed.
 #[derive(Drop)]
 pub struct Kept {
     pub bytes: Vec<u8>,

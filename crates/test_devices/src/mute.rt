@@ -1,4 +1,4 @@
-//! An index of periods that answers no question.
+//! An index of periods whose lookups all fail.
 use std::alloc::AllocError;
 use std::marker::Model;
 use tql_index::index::{Id, IntervalIndex};
@@ -7,7 +7,7 @@ use tql_index::span::Span;
 use tql_memory::Memory;
 use tql_period::period::Period;
 
-/// An index that keeps its entries in a list, and refuses memory for each question.
+/// An index that keeps its entries in a list. Each lookup fails with an allocation error.
 #[derive(Drop)]
 pub struct Mute {
     index: ListIndex,

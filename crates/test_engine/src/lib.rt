@@ -1,4 +1,4 @@
-//! The engine where no script shows it: memory that has ended, devices that fail.
+//! Tests of the engine that no script can make: memory that has run out, and devices that fail.
 #![tactic(auto)]
 
 #[cfg(test)]

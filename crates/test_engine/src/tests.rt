@@ -1,5 +1,5 @@
-//! What no clause says and no script shows: COMMIT and ROLLBACK without memory, an index that refuses each question,
-//! devices that fail at each of their calls, and scripts that are cut at each byte.
+//! Tests beyond contracts and scripts: COMMIT and ROLLBACK without memory, an index whose lookups all fail, devices
+//! that fail at each of their calls, and scripts that are cut at each byte.
 use tql_index::tree_index::TreeIndex;
 
 mod cuts;
@@ -10,5 +10,5 @@ mod plans;
 mod scripts;
 mod steps;
 
-/// The engine as the program has it.
+/// The engine that the program uses.
 type Engine = tql_engine::engine::Engine<TreeIndex>;

@@ -1,4 +1,4 @@
-//! Tests of what no line of data reaches: devices that fail, reads that are interrupted, memory that ends in the
+//! Tests that cannot be written as data: devices that fail, reads that are interrupted, memory that runs out in the
 //! middle, and texts of a million bytes.
 #![tactic(auto)]
 

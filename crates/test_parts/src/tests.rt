@@ -1,4 +1,4 @@
-//! One file for each subject; `devices` has what the others share.
+//! One file for each subject; the others share `devices`.
 mod devices;
 mod indexes;
 mod memories;

@@ -1,5 +1,5 @@
-//! Tests of the store by its own calls: what its readings find of a history, what a horizon leaves of it, and memory
-//! that ends in the middle.
+//! Tests of the store by its own calls: the versions that its readings find in a history, the versions that a horizon
+//! leaves, and memory that runs out in the middle.
 #![tactic(auto)]
 
 #[cfg(test)]

@@ -1,4 +1,4 @@
-//! One file for each subject; `stores` has what the others share.
+//! One file for each subject; the others share `stores`.
 mod histories;
 mod prunings;
 mod stores;

@@ -1,4 +1,4 @@
-//! What a line is answered, with each growth refused in turn.
+//! The answer to a line, with each allocation made to fail, in order.
 use crate::line::Line;
 use crate::stop::Stop;
 use crate::{calendar, indexes, lexer, periods, replies, values};
@@ -6,7 +6,7 @@ use std::alloc::AllocError;
 use tql_memory::{Memory, memory};
 use tql_value::refusal::Refusal;
 
-/// What a file is about.
+/// The subject of a file.
 #[derive(Clone, Copy)]
 pub enum Subject {
     Calendar,
@@ -17,10 +17,10 @@ pub enum Subject {
     Values,
 }
 
-/// More blocks of memory than any line asks for.
+/// More allocations than any line makes.
 const MOST_BLOCKS: u64 = 10_000;
 
-/// Answers a line in this memory.
+/// Appends the answer to a line, with this memory.
 fn answer(memory: Memory, subject: Subject, line: &Line<'_>, out: &mut String) -> Result<(), Stop> {
     match subject {
         Subject::Calendar => calendar::answer(line, out),
@@ -32,7 +32,7 @@ fn answer(memory: Memory, subject: Subject, line: &Line<'_>, out: &mut String) -
     }
 }
 
-/// Answers a line, and tells whether the memory was enough.
+/// Appends the answer to a line, and returns whether the memory was enough.
 fn is_answered(
     memory: Memory,
     subject: Subject,
@@ -49,8 +49,8 @@ fn is_answered(
     }
 }
 
-/// Answers a line with no block of memory, with one, with two, and so on, until it is not answered that memory ran out:
-/// so each growth is refused in turn, and none of them may change the answer.
+/// Answers a line with no allocation granted, with one, with two, and so on, until memory does not run out. So each
+/// allocation fails once, and none of the failures may change the answer.
 pub fn answer_in_turn(
     rt: &impl AllocGlobal,
     subject: Subject,

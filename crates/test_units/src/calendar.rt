@@ -1,4 +1,4 @@
-//! Literals of dates and moments, and the parts of days and moments.
+//! Lines about date and timestamp literals, and the parts of days and moments.
 use crate::line::Line;
 use crate::parts::int;
 use crate::stop::Stop;

@@ -1,4 +1,4 @@
-//! The indexes of periods, each as a list of steps.
+//! Lines about the indexes of periods, each a list of steps.
 use crate::line::Line;
 use crate::parts::{count, int, period, write_yes};
 use crate::stop::Stop;
@@ -10,13 +10,13 @@ use tql_index::tree_index::TreeIndex;
 use tql_memory::Memory;
 use tql_period::period::Period;
 
-/// An entry: a period and a number, with `#` between them.
+/// Parses an entry: a period and a number, with `#` between them.
 fn entry(text: &str) -> Result<(Period, Id), Stop> {
     let (ends, id) = text.split_once('#').ok_or(Stop::Form)?;
     Ok((period(ends)?, count(id)?))
 }
 
-/// Writes numbers by rising size.
+/// Writes numbers in ascending order.
 fn write_ids(out: &mut String, mut ids: Vec<Id, Memory>) -> Result<(), AllocError> {
     ids.sort()?;
     for id in &ids {
@@ -37,13 +37,13 @@ fn add<I: IntervalIndex>(index: &mut I, rest: &str) -> Result<(), Stop> {
     Ok(())
 }
 
-/// A group, and what is written after it.
+/// Parses a group, and returns it with the text after it.
 fn grouped(text: &str) -> Result<(i64, &str), Stop> {
     let (group, rest) = text.split_once(' ').ok_or(Stop::Form)?;
     Ok((int(group)?, rest))
 }
 
-/// The span of a period in a group.
+/// Parses the span of a period in a group.
 fn span(text: &str) -> Result<Span, Stop> {
     let (group, ends) = grouped(text)?;
     Ok(Span::within(group, period(ends)?))
@@ -63,7 +63,7 @@ fn take<I: IntervalIndex>(index: &mut I, out: &mut String, rest: &str) -> Result
     Ok(())
 }
 
-/// Makes a step, and writes what it finds.
+/// Executes a step, and writes its result.
 fn make<I: IntervalIndex>(index: &mut I, out: &mut String, step: &str) -> Result<(), Stop> {
     let (word, rest) = step.split_once(' ').ok_or(Stop::Form)?;
     match word {
@@ -81,7 +81,7 @@ fn make<I: IntervalIndex>(index: &mut I, out: &mut String, step: &str) -> Result
     Ok(())
 }
 
-/// Makes steps on a new index.
+/// Executes steps on a new index.
 fn run<I: IntervalIndex>(memory: Memory, out: &mut String, steps: &str) -> Result<(), Stop> {
     let mut index = I::new(memory);
     for step in steps.split("; ") {

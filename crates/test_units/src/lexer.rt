@@ -1,4 +1,4 @@
-//! The tokens of a text, and the pieces of a script.
+//! Lines about the tokens of a text, and the pieces of a script.
 ghost use Rattle.std.specs.Prelude.{◌≡◌, ◌<◌, ◌≤◌, [], OnOk};
 
 use crate::line::Line;
@@ -27,7 +27,7 @@ const SYMBOLS: [Symbol; 13] = [
     Symbol::AtLeastSign,
 ];
 
-/// A letter for each kind of token.
+/// Returns the letter of a kind of token.
 fn letter(kind: TokenKind) -> char {
     match kind {
         TokenKind::Word => 'w',
@@ -38,7 +38,7 @@ fn letter(kind: TokenKind) -> char {
     }
 }
 
-/// What a token says, behind the letter of its kind.
+/// Writes the letter of a token's kind, and the token's content.
 fn write_token(out: &mut String, memory: Memory, token: &Token<'_>) -> Result<(), Stop> {
     let content = token.content(memory)?;
     write!(out, "{}{content} ", letter(token.kind))?;
@@ -53,7 +53,7 @@ fn write_tokens(out: &mut String, memory: Memory, text: &str) -> Result<(), Stop
     Ok(())
 }
 
-/// Where each token starts, and its text as it is written.
+/// Writes the start of each token, and its text as it is written.
 fn write_places(out: &mut String, memory: Memory, text: &str) -> Result<(), Stop> {
     let found = tokens(memory, text)?;
     for token in &found {
@@ -62,7 +62,7 @@ fn write_places(out: &mut String, memory: Memory, text: &str) -> Result<(), Stop
     Ok(())
 }
 
-/// Whether each token is reserved.
+/// Writes whether each token is reserved.
 fn write_reserved(out: &mut String, memory: Memory, text: &str) -> Result<(), Stop> {
     let found = tokens(memory, text)?;
     for token in &found {
@@ -71,7 +71,7 @@ fn write_reserved(out: &mut String, memory: Memory, text: &str) -> Result<(), St
     Ok(())
 }
 
-/// Which of the symbols the first token is.
+/// Writes which of the symbols the first token is.
 fn write_symbols(out: &mut String, memory: Memory, text: &str) -> Result<(), Stop> {
     let found = tokens(memory, text)?;
     let token = found.first().ok_or(Stop::Form)?;
@@ -83,7 +83,7 @@ fn write_symbols(out: &mut String, memory: Memory, text: &str) -> Result<(), Sto
     Ok(())
 }
 
-/// Whether the first token is the word.
+/// Writes whether the first token is the word.
 fn write_is_word(out: &mut String, memory: Memory, input: &str) -> Result<(), Stop> {
     let (text, word) = sides(input)?;
     let found = tokens(memory, text)?;
@@ -92,7 +92,7 @@ fn write_is_word(out: &mut String, memory: Memory, input: &str) -> Result<(), St
     Ok(())
 }
 
-/// Writes a text, or how long it is where it is not UTF-8, and a mark behind it.
+/// Writes a text, or its length if it is not UTF-8, and a mark after it.
 fn write_text(out: &mut String, text: &[u8], mark: char) -> Result<(), AllocError> {
     match str::from_utf8(text) {
         Ok(text) => write!(out, "{text}{mark}"),
@@ -100,7 +100,7 @@ fn write_text(out: &mut String, text: &[u8], mark: char) -> Result<(), AllocErro
     }
 }
 
-/// Writes a piece. One for which memory was refused ends the answer, as any refused growth does.
+/// Writes a piece. A piece that could not be read for lack of memory ends the answer, as any failed allocation does.
 fn write_piece(out: &mut String, piece: Piece<'_>) -> Result<(), AllocError> {
     match piece {
         Piece::Text(text) => write_text(out, text, '|'),
@@ -110,7 +110,7 @@ fn write_piece(out: &mut String, piece: Piece<'_>) -> Result<(), AllocError> {
     }
 }
 
-/// Writes all pieces that there are now.
+/// Writes all pieces that are complete.
 fn drain(out: &mut String, splitter: &mut Splitter) -> Result<(), AllocError>
     ensures ended { splitter.new.ended ≡ splitter.old.ended }
     ensures drained { OnOk result (splitter.new.ready ≡ []) }
@@ -121,7 +121,7 @@ fn drain(out: &mut String, splitter: &mut Splitter) -> Result<(), AllocError>
     Ok(())
 }
 
-/// A text's bytes, with the byte 0xff, which no UTF-8 has, in the place of each replacement character.
+/// Returns the bytes of a text, with the byte 0xff, which is never valid UTF-8, for each replacement character.
 fn bytes_of(memory: Memory, text: &str) -> Result<Vec<u8, Memory>, AllocError> {
     let mut bytes = Vec::new(memory);
     for (place, part) in text.split('\u{fffd}').enumerate() {
@@ -133,7 +133,7 @@ fn bytes_of(memory: Memory, text: &str) -> Result<Vec<u8, Memory>, AllocError> {
     Ok(bytes)
 }
 
-/// The pieces of a script that is fed in parts of this size.
+/// Writes the pieces of a script that is fed in parts of this size.
 fn write_pieces(out: &mut String, memory: Memory, size: usize, script: &[u8]) -> Result<(), Stop>
     requires some { 0 < size }
     requires small { size ≤ 65_536 }
@@ -148,7 +148,7 @@ fn write_pieces(out: &mut String, memory: Memory, size: usize, script: &[u8]) ->
     Ok(())
 }
 
-/// The pieces of a script behind the size of the parts in which it is fed.
+/// Writes the pieces of a script. The input is the size of the parts in which it is fed, and the script.
 fn cut(out: &mut String, memory: Memory, input: &str) -> Result<(), Stop> {
     let (size, script) = two(input)?;
     let size = count(size)?;

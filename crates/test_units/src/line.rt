@@ -1,7 +1,7 @@
 //! A line of a file: `COMMAND INPUT -> ANSWER`.
 use std::alloc::{AllocError, Global};
 
-/// What a line asks, and what is to be answered.
+/// A line: a command, its input, and the expected answer.
 #[derive(Clone, Copy)]
 pub struct Line<'a> {
     pub command: &'a str,
@@ -9,12 +9,12 @@ pub struct Line<'a> {
     pub wanted: &'a str,
 }
 
-/// Whether a line of a file asks something: it is neither empty nor a remark.
+/// Whether a line of a file is a test, neither empty nor a remark.
 pub fn is_case(written: &str) -> bool {
     !written.is_empty() && !written.starts_with('#')
 }
 
-/// The character that a mark stands for.
+/// Returns the character that a mark represents.
 fn meant(mark: char) -> char {
     match mark {
         '⏎' => '\n',
@@ -28,7 +28,7 @@ fn meant(mark: char) -> char {
     }
 }
 
-/// A text with the characters that its marks stand for.
+/// Returns a text with its marks replaced by the characters that they represent.
 pub fn unmarked(alloc: Global, written: &str) -> Result<String, AllocError> {
     let mut text = String::new(alloc);
     for mark in written.chars() {
@@ -37,7 +37,7 @@ pub fn unmarked(alloc: Global, written: &str) -> Result<String, AllocError> {
     Ok(text)
 }
 
-/// The parts of a line.
+/// Parses a line.
 pub fn line_of(text: &str) -> Option<Line<'_>> {
     let (asked, answer) = text.split_once(" ->")?;
     let (command, input) = asked.split_once(' ')?;

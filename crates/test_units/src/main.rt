@@ -1,5 +1,5 @@
-//! Reads the lines of the files of data/, answers each, and prints how many lines a file has. Before that it prints
-//! each line whose answer is not the one that it asks for.
+//! Reads the lines of the files in data/, answers each, and prints the number of lines of each file. Before that it
+//! prints each line whose answer is not the expected one.
 //!
 //!     rt try $(for file in data/*; do echo --data $(basename $file)=$file; done)
 #![tactic(auto)]
@@ -20,7 +20,7 @@ use crate::line::{Line, is_case, line_of, unmarked};
 use std::fs::Files;
 use std::{fs, io};
 
-/// The files, and what each is about.
+/// The files and their subjects.
 const FILES: [(&str, Subject); 6] = [
     ("calendar", Subject::Calendar),
     ("indexes", Subject::Indexes),
@@ -30,7 +30,7 @@ const FILES: [(&str, Subject); 6] = [
     ("values", Subject::Values),
 ];
 
-/// Whether a line is answered as it asks for; else it is printed with its answer.
+/// Whether a line has the expected answer. If not, it is printed with its answer.
 fn is_met(rt: &(impl Print + AllocGlobal), subject: Subject, line: &Line<'_>) -> io::Result<bool> {
     let answer = answer_in_turn(rt, subject, line)?;
     if answer.as_str() == line.wanted {
@@ -40,7 +40,7 @@ fn is_met(rt: &(impl Print + AllocGlobal), subject: Subject, line: &Line<'_>) ->
     Ok(false)
 }
 
-/// Whether a line as it is written in a file is met.
+/// Whether a line, as it is written in a file, has the expected answer.
 fn is_right(rt: &(impl Print + AllocGlobal), subject: Subject, written: &str) -> io::Result<bool> {
     let text = unmarked(rt.alloc(), written)?;
     match line_of(text.as_str()) {
@@ -52,7 +52,7 @@ fn is_right(rt: &(impl Print + AllocGlobal), subject: Subject, written: &str) ->
     }
 }
 
-/// Answers the lines of a file, and prints how many they are.
+/// Answers the lines of a file, and prints their number.
 fn check_file(
     rt: &(impl Print + Files + AllocGlobal),
     name: &str,

@@ -1,44 +1,44 @@
-//! Parts of a line, read and written.
+//! Parsing and writing of the parts of a line.
 use crate::stop::Stop;
 use std::alloc::AllocError;
 use tql_memory::Memory;
 use tql_period::period::Period;
 use tql_value::value::{Value, View};
 
-/// What stands on both sides of the first ` | `.
+/// Returns the texts on both sides of the first ` | `.
 pub fn sides(text: &str) -> Result<(&str, &str), Stop> {
     text.split_once(" | ").ok_or(Stop::Form)
 }
 
-/// Two parts with a blank between them.
+/// Parses two parts with a blank between them.
 pub fn two(text: &str) -> Result<(&str, &str), Stop> {
     text.split_once(' ').ok_or(Stop::Form)
 }
 
-/// A whole number.
+/// Parses a whole number.
 pub fn int(text: &str) -> Result<i64, Stop> {
     text.parse().ok().ok_or(Stop::Form)
 }
 
-/// A whole number that is not negative.
+/// Parses a whole number that is not negative.
 pub fn count(text: &str) -> Result<usize, Stop> {
     text.parse().ok().ok_or(Stop::Form)
 }
 
-/// A period, by its ends.
+/// Parses a period, given by its ends.
 pub fn period(text: &str) -> Result<Period, Stop> {
     let (start, end) = two(text)?;
     Period::new(int(start)?, int(end)?).ok_or(Stop::Form)
 }
 
-/// A text in quotes.
+/// Parses a text in quotes.
 fn quoted(text: &str) -> Result<View<'_>, Stop> {
     let behind = text.strip_prefix('\'').ok_or(Stop::Form)?;
     let content = behind.strip_suffix('\'').ok_or(Stop::Form)?;
     Ok(View::Text(content))
 }
 
-/// A value: `NULL`, a number, `day N`, `moment N`, or a text in quotes, in which a quote stands once.
+/// Parses a value: `NULL`, a number, `day N`, `moment N`, or a text in quotes, in which a quote is not doubled.
 pub fn view(text: &str) -> Result<View<'_>, Stop> {
     if text == "NULL" {
         return Ok(View::Null);
@@ -55,7 +55,7 @@ pub fn view(text: &str) -> Result<View<'_>, Stop> {
     }
 }
 
-/// Writes a value as `view` reads it.
+/// Writes a value in the form that `view` parses.
 pub fn write_view(out: &mut String, view: View<'_>) -> Result<(), AllocError> {
     match view {
         View::Null => out.push_str("NULL"),
@@ -71,7 +71,7 @@ pub fn write_yes(out: &mut String, holds: bool) -> Result<(), AllocError> {
     out.push_str(if holds { "yes" } else { "no" })
 }
 
-/// Values in memory of their own, with `, ` between them.
+/// Parses values with `, ` between them, and copies them.
 fn row(memory: Memory, text: &str) -> Result<Vec<Value, Memory>, Stop> {
     let mut row = Vec::new(memory);
     for part in text.split(", ") {
@@ -80,7 +80,7 @@ fn row(memory: Memory, text: &str) -> Result<Vec<Value, Memory>, Stop> {
     Ok(row)
 }
 
-/// Rows with `; ` between them, or none.
+/// Parses rows with `; ` between them, or none.
 pub fn rows(memory: Memory, text: &str) -> Result<Vec<Vec<Value, Memory>, Memory>, Stop> {
     let mut rows = Vec::new(memory);
     for part in text.split("; ") {

@@ -1,4 +1,4 @@
-//! The parts of periods, their points, and coverage.
+//! Lines about the parts of periods, their points, and coverage.
 use crate::line::Line;
 use crate::parts::{int, period, sides, two};
 use crate::stop::Stop;
@@ -8,7 +8,7 @@ use tql_period::coverage::{covers, starts_rise};
 use tql_period::period::Period;
 use tql_period::pieces::split;
 
-/// Writes a period's ends, or a dash where there is none.
+/// Writes the ends of a period, or a dash if there is none.
 fn write_period(out: &mut String, period: Option<Period>) -> Result<(), AllocError> {
     match period {
         Some(period) => write!(out, "{} {}", period.start, period.end),
@@ -16,7 +16,7 @@ fn write_period(out: &mut String, period: Option<Period>) -> Result<(), AllocErr
     }
 }
 
-/// The parts into which a portion cuts a period.
+/// Writes the parts into which a portion cuts a period.
 fn cut(out: &mut String, input: &str) -> Result<(), Stop> {
     let (whole, portion) = sides(input)?;
     let pieces = split(period(whole)?, period(portion)?);
@@ -32,7 +32,7 @@ fn mark(holds: bool) -> char {
     if holds { 'Y' } else { 'N' }
 }
 
-/// With which of some periods a period shares a point.
+/// Writes with which of some periods a period shares a point.
 fn shares(out: &mut String, input: &str) -> Result<(), Stop> {
     let (one, others) = sides(input)?;
     let one = period(one)?;
@@ -42,7 +42,7 @@ fn shares(out: &mut String, input: &str) -> Result<(), Stop> {
     Ok(())
 }
 
-/// Which of some points lie in a period.
+/// Writes which of some points lie in a period.
 fn holds(out: &mut String, input: &str) -> Result<(), Stop> {
     let (one, points) = sides(input)?;
     let one = period(one)?;
@@ -52,14 +52,14 @@ fn holds(out: &mut String, input: &str) -> Result<(), Stop> {
     Ok(())
 }
 
-/// The period with two ends, where they rise.
+/// Writes the period with two ends, if they rise.
 fn rising(out: &mut String, input: &str) -> Result<(), Stop> {
     let (start, end) = two(input)?;
     write_period(out, Period::new(int(start)?, int(end)?))?;
     Ok(())
 }
 
-/// Periods with `, ` between them, or none.
+/// Parses periods with `, ` between them, or none.
 fn periods(memory: Memory, text: &str) -> Result<Vec<Period, Memory>, Stop> {
     let mut periods = Vec::new(memory);
     for part in text.split(", ") {
@@ -70,7 +70,7 @@ fn periods(memory: Memory, text: &str) -> Result<Vec<Period, Memory>, Stop> {
     Ok(periods)
 }
 
-/// Whether some periods cover another one, where they have rising starts.
+/// Writes whether some periods cover another one, if their starts rise.
 fn write_covered(out: &mut String, parts: &[Period], whole: Period) -> Result<(), AllocError> {
     if !starts_rise(parts) {
         return out.push_str("falling");
@@ -78,7 +78,7 @@ fn write_covered(out: &mut String, parts: &[Period], whole: Period) -> Result<()
     out.push(mark(covers(parts, whole)))
 }
 
-/// Which of some periods are covered by others.
+/// Writes which of some periods are covered by others.
 fn coverage(out: &mut String, memory: Memory, input: &str) -> Result<(), Stop> {
     let (parts, wholes) = sides(input)?;
     let parts = periods(memory, parts)?;

@@ -1,4 +1,4 @@
-//! The printed texts of replies and answers.
+//! Lines about the printed texts of replies and answers.
 ghost use Rattle.std.specs.Prelude.{IsTrue};
 ghost use Rattle.tql_result.specs.Replies.{answer_of, IsPrintableAnswer};
 
@@ -37,7 +37,7 @@ fn verb(word: &str) -> Result<Verb, Stop> {
     }
 }
 
-/// What is done, with how many rows, or with no count.
+/// Parses the reply of a statement that is done, with a number of rows or without.
 fn done(input: &str) -> Result<Reply, Stop> {
     let (word, number) = two(input)?;
     let verb = verb(word)?;
@@ -47,7 +47,7 @@ fn done(input: &str) -> Result<Reply, Stop> {
     Ok(Reply::Done(verb, Some(count(number)? as u64)))
 }
 
-/// Headings with `, ` between them.
+/// Parses headings with `, ` between them.
 fn headings(memory: Memory, text: &str) -> Result<Vec<String<Memory>, Memory>, Stop> {
     let mut headings = Vec::new(memory);
     for name in text.split(", ") {
@@ -56,7 +56,7 @@ fn headings(memory: Memory, text: &str) -> Result<Vec<String<Memory>, Memory>, S
     Ok(headings)
 }
 
-/// A table: its headings, and its rows.
+/// Parses a table: its headings, and its rows.
 fn table(memory: Memory, input: &str) -> Result<Reply, Stop> {
     let (names, behind) = sides(input)?;
     let headings = headings(memory, names)?;
@@ -64,17 +64,17 @@ fn table(memory: Memory, input: &str) -> Result<Reply, Stop> {
     Ok(Reply::Table(ResultTable { headings, rows }))
 }
 
-/// Why a sink into a vector failed.
+/// The only reason why a sink into a vector fails.
 const NO_MEMORY: Stop = Stop::Refused(Refusal::OutOfMemory);
 
-/// Writes what a sink holds.
+/// Writes the content of a sink.
 fn write_held(out: &mut String, sink: VecSink) -> Result<(), Stop> {
     let bytes = sink.into_bytes();
     out.push_str(str::from_utf8(&bytes).ok().ok_or(Stop::Form)?)?;
     Ok(())
 }
 
-/// Writes the text of a reply, where it has one.
+/// Writes the text of a reply, if it has one.
 fn write_printed(out: &mut String, memory: Memory, reply: &Reply) -> Result<(), Stop> {
     if !is_printable_reply(reply) {
         out.push_str("no text")?;
@@ -85,7 +85,7 @@ fn write_printed(out: &mut String, memory: Memory, reply: &Reply) -> Result<(), 
     write_held(out, sink)
 }
 
-/// Writes the text of the answer that accepts a statement.
+/// Writes the text of the answer to an accepted statement.
 fn write_accepted(out: &mut String, memory: Memory) -> Result<(), Stop> {
     let mut sink = VecSink::new(Vec::new(memory));
     write_answer(&mut sink, &Answer::Accepted)
@@ -164,8 +164,8 @@ fn write_json(
     write_held(out, sink)
 }
 
-/// Writes a refusal as a line of JSON: by its number, the column of its fault, its row and the detail, each `-` if it
-/// is not known. The constraint has these columns, and the name of the first; so has the hint.
+/// Writes a refusal as a line of JSON. The input is its number, the column of its fault, its row and the detail, each
+/// `-` if unknown. The constraint has these columns. It and the hint have the name of the first.
 fn write_fault<'a>(
     out: &mut String,
     memory: Memory,

@@ -1,18 +1,18 @@
-//! Why a line has no answer of its own.
+//! The reasons why a line has no answer of its own.
 use std::alloc::{AllocError, AllocFailed};
 use tql_value::refusal::Refusal;
 
-/// Why a line has no answer of its own.
+/// The reason why a line has no answer of its own.
 #[derive(Clone, Copy)]
 pub enum Stop {
-    /// The line is not written as its command wants it.
+    /// The line does not have the form that its command requires.
     Form,
-    /// What is asked was refused.
+    /// The command was refused.
     Refused(Refusal),
 }
 
 impl Stop {
-    /// What is answered in its place.
+    /// Returns the text that is written as the answer.
     pub fn text(self) -> &'static str {
         match self {
             Stop::Form => "this is not how the line is written",

@@ -1,4 +1,4 @@
-//! Comparison and order of values of two kinds, copies, texts, numbers of tables, and refusals.
+//! Lines about the comparison and order of values, copies, texts, numbers of tables, and refusals.
 use crate::line::Line;
 use crate::parts::{count, sides, two, view, write_view};
 use crate::stop::Stop;
@@ -49,7 +49,7 @@ const REFUSALS: [Refusal; 25] = [
     Refusal::ReadersAreOpen,
 ];
 
-/// A truth value as `F`, `U` or `T`.
+/// Returns the letter of a truth value: `F`, `U` or `T`.
 fn letter(truth: Truth) -> char {
     match truth {
         Truth::False => 'F',
@@ -58,7 +58,7 @@ fn letter(truth: Truth) -> char {
     }
 }
 
-/// What each sign says of two values, and how they are ordered.
+/// Writes the result of each comparison of two values, and their order.
 fn write_comparison(out: &mut String, text: &str) -> Result<(), Stop> {
     let (a, b) = sides(text)?;
     let (a, b) = (view(a)?, view(b)?);
@@ -83,7 +83,7 @@ fn write_kind(out: &mut String, kind: Option<Kind>) -> Result<(), AllocError> {
     })
 }
 
-/// A value, and a copy of it.
+/// Writes a value, and a copy of it.
 fn write_copies(out: &mut String, memory: Memory, view: View<'_>) -> Result<(), Stop> {
     let value = view.to_value(memory)?;
     write_view(out, value.view())?;
@@ -93,7 +93,7 @@ fn write_copies(out: &mut String, memory: Memory, view: View<'_>) -> Result<(), 
     Ok(())
 }
 
-/// How many characters a text has, and how many bytes.
+/// Writes the number of characters of a text, and the number of its bytes.
 fn write_lengths(out: &mut String, memory: Memory, content: &str) -> Result<(), Stop> {
     let text = Text::from(String::from_str(memory, content)?);
     let characters = characters(text.as_str());
@@ -109,7 +109,7 @@ fn write_table(out: &mut String, number: usize) -> Result<(), Stop> {
     Ok(())
 }
 
-/// The refusal of a number.
+/// Returns the refusal with this number.
 pub fn refusal(number: &str) -> Result<Refusal, Stop> {
     let number = count(number)?;
     for refusal in REFUSALS {
@@ -120,7 +120,7 @@ pub fn refusal(number: &str) -> Result<Refusal, Stop> {
     Err(Stop::Form)
 }
 
-/// The place of a refusal in the order of report, its text, and how it is displayed.
+/// Writes the rank of a refusal in the order of report, its text, and how it is displayed.
 fn write_refusal(out: &mut String, refusal: Refusal) -> Result<(), Stop> {
     write!(out, "{} {} = {refusal}", refusal.place(), refusal.text())?;
     Ok(())

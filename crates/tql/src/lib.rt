@@ -1,7 +1,7 @@
-//! The engine for programs of your own: an in-memory bitemporal table engine, each of its answers proved.
+//! The engine as a library: an in-memory bitemporal table engine whose answers are proved correct.
 //!
-//! Make the memory that everything is kept in, and an engine in it; give it a script, or one statement after another,
-//! and read the replies. Nothing is kept when the engine is let go.
+//! Create the memory in which everything is kept, and an engine in it. Give it a script, or one statement after
+//! another, and read the replies. All data is freed when the engine is dropped.
 //!
 //! ```text
 //! let memory = memory(rt.alloc(), u64::MAX)?;          // or memory_within(rt.alloc(), 1 << 30)?
@@ -14,28 +14,27 @@
 //! }
 //! ```
 //!
-//! `Engine::step` is given one statement, without its `;`. A `;` ends a statement of a script, and is no part of a
-//! statement: in a text that is given to `step` it stands in a quote or in a comment, or is refused as not a statement.
+//! `Engine::step` takes one statement, without its `;`. A `;` ends a statement of a script, and is not part of it. In a
+//! text for `step`, a `;` outside quotes and comments is refused as not a statement.
 //!
-//! A script runs by `run`, over a `Source` that gives its bytes and a `Sink` that takes the replies' bytes, as
-//! `SliceSource` and `VecSink` are in memory, and `StdSource` and `StdSink` over files and streams. A `Listener` hears
-//! which statements were refused, on which lines, and the `Detail` of each, where it is known, in parts: the `place`,
-//! what is wrong (`words`), what to write (`hint`), and of a row that fails the `constraint`, its `columns` and the
-//! number of the `row`. `Notes` keeps that, `Silence` does not listen. `run_in` writes the replies in another `Form`
-//! (`CsvForm`, `JsonForm`, `JsonlForm`, `BoxForm`), and stops at the first refusal where that is asked for. Where none
-//! of this is needed, `run_bytes` runs a script in memory. A host whose bytes come part by part has a `Session`: it is
-//! fed them as they come, and gives each answer as soon as its statement is whole. A table is written as
-//! comma-separated values by `write_csv_table`, and as JSON Lines by `write_json_rows`. An answer is written as JSON
-//! by `write_json_answer`, with a `Diagnostic` of a refusal, which has the parts of a detail.
+//! `run` runs a script. It reads the script from a `Source` and writes the replies to a `Sink`: `SliceSource` and
+//! `VecSink` in memory, `StdSource` and `StdSink` over files and streams. A `Listener` receives the refused statements,
+//! their lines and, if known, the `Detail` of each. A detail has the `place`, what is wrong (`words`) and what to write
+//! (`hint`). For a row that fails it has the `constraint`, its `columns` and the number of the `row`. `Notes` records
+//! this; `Silence` ignores it. `run_in` writes the replies in another `Form` (`CsvForm`, `JsonForm`, `JsonlForm`,
+//! `BoxForm`), and can stop at the first refusal. `run_bytes` is the simple form: it runs a script in memory. A host
+//! that receives its bytes in parts uses a `Session`, which gives each answer as soon as its statement is complete.
+//! `write_csv_table` writes a table as comma-separated values, and `write_json_rows` writes it as JSON Lines.
+//! `write_json_answer` writes an answer as JSON; the `Diagnostic` of a refusal has the parts of a detail.
 //!
-//! Values are put into a statement by `literal`, which doubles each quote. Which tables are there, with their columns
-//! and kinds, `Engine::table_count` and `Engine::table_definition` tell; which kinds the columns of a query have,
-//! before it runs, `Engine::column_kinds`; and by what its rows can be found, `Engine::plan_told`. Days and moments are
-//! numbers (`View::Day`, `View::Moment`): `read_date` and `read_timestamp` read their texts, `date_text` and
-//! `timestamp_text` write them, and `day_parts` and `moment_parts` tell their parts.
+//! `literal` makes a literal of a value for a statement; it doubles each quote. `Engine::table_count` and
+//! `Engine::table_definition` return the tables with their columns and kinds. `Engine::column_kinds` returns the kinds
+//! of a query's columns before it runs, and `Engine::plan_told` describes its access paths. Days and moments are
+//! numbers (`View::Day`, `View::Moment`). `read_date` and `read_timestamp` parse their texts, `date_text` and
+//! `timestamp_text` format them, and `day_parts` and `moment_parts` return their parts.
 //!
-//! `crates/embedding` is a program that does so. `docs/LANGUAGE.md` is the language; what is proved of each function
-//! stands in its contract.
+//! `crates/embedding` is an example program. `docs/LANGUAGE.md` describes the language. The contract of each function
+//! states what is proved about it.
 #![tactic(auto)]
 
 pub use tql_catalog::constraint::{Key, Reference};
@@ -81,5 +80,5 @@ pub use tql_value::literal::{read_date, read_timestamp};
 pub use tql_value::refusal::Refusal;
 pub use tql_value::value::{Kind, ResultTable, Value, View};
 
-/// The engine, which keeps closed versions, and finds rows by their values and periods, by balanced trees.
+/// The engine. Balanced trees keep its closed versions and find rows by their values and periods.
 pub type Engine = tql_engine::engine::Engine<TreeIndex>;

@@ -19,7 +19,7 @@ use Rattle.tql_bind_change.specs.Heads.{Assigned, update_head}
 abbrev pub set_names : List SetTree → List Name
 set_names sets = map (λ (s : SetTree). s.column) sets
 
--- what an UPDATE says before its WHERE, from its parts
+-- the part of an UPDATE before its WHERE, from its own parts
 pub head_bound : (defs : List TableDef) (n : Name) (p : Option PortionTree) (sets : List SetTree)
     → (old a b c e new : Option Refusal) (t : ℕ) (d : TableDef) (r : Option Period) (is : List ℕ)
     (as' : List change.Assignment)
@@ -73,7 +73,7 @@ faults_are defs n p sets c =
     ∙ ap (λ (es : List Refusal). columns ++ es) (append_assoc own (assigned ++ []) last
     ∙ ap (λ (es : List Refusal). own ++ es) (append_assoc assigned [] last))))
 
--- UPDATE: what stands before WHERE, and the WHERE
+-- UPDATE: the part before WHERE, and the WHERE
 pub update_bound : (defs : List TableDef) (n : Name) (p : Option PortionTree) (sets : List SetTree)
     (c : Option Condition)
     → (old mid new : Option Refusal) (head : Assigned) (conds : List Cond)

@@ -1,4 +1,4 @@
--- The columns that an INSERT without a list fills; and faults that change nothing.
+-- The columns that an INSERT without a list fills, and faults that change nothing.
 use Rattle.std.specs.Prelude.{◌≡◌, refl, ℕ, Bool, true, false, ◌==◌, nat_lt, ◌≤◌, List, [], ◌∷◌, map, length, Option}
 use Rattle.std.specs.Prelude.{Some}
 use Rattle.std.proofs.Common.{sym, arith, eqb-true}
@@ -17,7 +17,7 @@ pub all_filled : (d : definition.TableDef) (names : List Name) (numbers : List �
 all_filled d [] numbers old none all = record { value = all; least = sym (after_nil old) }
 all_filled d (n ∷ ns) numbers old none all = absurd (omega (arith, eqb-true (length (n ∷ ns)) 0 none))
 
--- a fault that is reported after the first so far, or in its place, changes nothing
+-- a fault changes nothing if it is of the same kind as the first so far, or is reported after it
 pub no_more : (x e : Refusal) (b : Bool) → place x ≤ place e → after (Some x) (fault_if b e) ≡ Some x
 unfolding after
 no_more x e false h = refl

@@ -1,4 +1,4 @@
--- Elements that are bound one behind another, while the terms of their statement grow.
+-- Elements that are bound in order, while the terms of their statement grow.
 use Rattle.std.proofs.Common.{◌≡◌, ℕ, ◌+◌, ◌<◌, ◌≤◌, List, [], ◌∷◌, ◌++◌, length, map, All, drop, get_or, refl, sym}
 use Rattle.std.proofs.Common.{ap, ◌∙◌, subst}
 use Rattle.std.specs.Prelude.{Option}
@@ -12,12 +12,12 @@ use Rattle.tql_bind_expr.specs.Gathered.{Gathers}
 use Rattle.tql_bind_expr.proofs.Arena.{stays_here, stays_along}
 use Rattle.tql_bind_expr.proofs.Gathering.{EachLeads, each_on, each_ended}
 
--- what is there stays there and stays what it is, where the terms stay
+-- an element in the arena stays there with the same meaning, as long as the terms stay
 pub record IsKept {Y B : Type 0} (view : Terms → Y → B) (Held : Terms → Y → Type 0) : Type 0 where
   pub same : {t u : Terms} → Stays t u → (y : Y) → Held t y → view u y ≡ view t y
   pub there : {t u : Terms} → Stays t u → (y : Y) → Held t y → Held u y
 
--- all of a list
+-- all elements of a list
 pub all_same : {Y B : Type 0} (view : Terms → Y → B) (Held : Terms → Y → Type 0) → IsKept view Held → {t u : Terms}
     → Stays t u → (ys : List Y) → All (Held t) ys → map (view u) ys ≡ map (view t) ys
 all_same view Held kept {t} {u} s [] h = refl
@@ -33,7 +33,7 @@ all_there view Held kept {t} {u} s (y ∷ ys) h =
     All-cons (Held u) y ys (kept.there s y (All-head (Held t) y ys h))
     (all_there view Held kept s ys (All-tail (Held t) y ys h))
 
--- the elements bound so far are there, and with those that are left they give what all give
+-- the elements bound so far are in the arena, and with the remaining ones they give what all give
 pub record EachGrows {Y A B : Type 0} (view : Terms → Y → B) (Held : Terms → Y → Type 0) (f : A
     → Checked B) (all : List A) (start : Terms) (old : Option Refusal) (t : Terms) (ys : List Y) (left : List A)
     (now : Option Refusal) : Type 0 where
@@ -41,7 +41,7 @@ pub record EachGrows {Y A B : Type 0} (view : Terms → Y → B) (Held : Terms �
   pub held : All (Held t) ys
   pub leads : EachLeads f all old (map (view t) ys) left now
 
--- one more element is bound, and what it gives is pushed
+-- one more element is bound, and its value pushed
 grows_on : {Y A B : Type 0} (view : Terms → Y → B) (Held : Terms → Y → Type 0) (kept : IsKept view Held) (f : A
     → Checked B) (all : List A) (start : Terms) (old : Option Refusal) (t u : Terms) (ys zs : List Y) (y : Y) (a : A)
     (left : List A) (mid now : Option Refusal)
@@ -76,7 +76,7 @@ grows_begun view Held kept f start old t zs y a left now s pushed checked h =
       leads = record { value = refl; least = refl };
     }) s pushed checked h
 
--- from an index on there is its element and what is behind it
+-- the rest of a list from an index: its element and the elements after it
 at_index : {X : Type 0} (xs : List X) (i : ℕ) (x : X) → i < length xs → x ≡ get_or xs i x
     → drop i xs ≡ x ∷ drop (i + 1) xs
 at_index xs i x h is = at_drop_more (λ l. l) xs i x h ∙ ap (λ y. y ∷ drop (i + 1) xs) (sym is)
@@ -95,7 +95,7 @@ grows_item {X} view Held kept f g all start old t u xs i x ys zs y mid now withi
     (at_index xs i x within is) l in
     grows_on view Held kept f all start old t u ys zs y (g x) (map g (drop (i + 1) xs)) mid now here s pushed checked h
 
--- no element is left
+-- no element remains
 pub grows_done : {X Y A B : Type 0} (view : Terms → Y → B) (Held : Terms → Y → Type 0) (f : A → Checked B) (g : X
     → A) (all : List A) (start : Terms) (old : Option Refusal) (t : Terms) (xs : List X) (i : ℕ) (ys : List Y)
     (now : Option Refusal)

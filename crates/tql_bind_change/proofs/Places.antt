@@ -13,7 +13,7 @@ use Rattle.tql_spec.specs.Creation.{number_in}
 use Rattle.tql_catalog.specs.Definitions.{column_of}
 use Rattle.tql_catalog.specs.declared.definition.Column.{Column}
 
--- whether this is the column of the name
+-- whether the column has this name
 abbrev pub is_called : Name → Column → Bool
 is_called n c = same_text n (string_bytes c.name)
 
@@ -36,12 +36,12 @@ place_from n [] = refl
 place_from n (c ∷ cs) = ap (λ o. if same_text n (string_bytes c.name) then Some 0 else o) (next_of (is_called n) 0 cs
     ∙ ap next_place (place_from n cs))
 
--- the place at which a column is found is its number
+-- the index at which a column is found is its number
 pub place_of-columns : (n : Name) (columns : List Column)
     → position (is_called n) columns ≡ number_in n (names_in columns)
 place_of-columns n columns = position_from-zero (is_called n) columns ∙ place_from n columns
 
--- the kind of a column that is there, and of none another
+-- the kind of an existing column does not depend on the default
 kind_at : (other : Kind) (columns : List Column) (i : ℕ) (c : Column) → i < length columns
     → plain_kind (slice_index_or columns i c).kind ≡ slice_index_or
     (map (λ (k : definition.Column). k.kind) (map column_of columns)) i other

@@ -14,7 +14,7 @@ use Rattle.tql_bind_expr.specs.Gathered.{Gathers}
 use Rattle.tql_bind_expr.proofs.Gathering.{bound}
 use Rattle.tql_bind_change.specs.Portions.{differs}
 
--- the period that is named, the kinds of the points, and the points
+-- the named period, the kinds of the points, and the points
 pub portion_bound : (d : TableDef) (p : PortionTree) (k : Option Kind) (b : Bool) (from to : Option ℤ)
     (old mid last new : Option Refusal) (x : Option Period)
     → Gathers (portion_period d p.period) old mid k → b ≡ differs k p → Gathers (refuse_if b TypesDoNotFit) mid last tt
@@ -31,7 +31,7 @@ portion_bound d p k b from to old mid last new x period is other f t points =
     period
     (bound (refuse_if (differs k p) TypesDoNotFit) (λ u. at_points) mid last new tt x refused points_bound)
 
--- where there is a portion, SET is asked for the period's columns
+-- with a portion, SET is tested for the period's columns
 pub sets_of_portion : (d : TableDef) (p : Option PortionTree) (is : List ℕ) (b : Bool) → is_some p ≡ true
     → b ≡ list_any (λ i. has_number i (period_columns d.application)) is → b ≡ sets_period d p is
 sets_of_portion d None is b e h = absurd (cc)

@@ -1,4 +1,4 @@
--- Parts that are bound one behind another.
+-- Parts that are bound in order.
 use Rattle.std.proofs.Common.{◌≡◌, ℕ, ◌+◌, ◌<◌, ◌≤◌, List, [], ◌∷◌, ◌++◌, length, map, drop, get_or, sym, subst}
 use Rattle.std.specs.Prelude.{Option}
 use Rattle.std.proofs.lemmas.List.{map-id, drop_all}
@@ -7,7 +7,7 @@ use Rattle.tql_spec.specs.Refusal.{Refusal}
 use Rattle.tql_bind_expr.specs.Gathered.{Gathers}
 use Rattle.tql_bind_expr.proofs.Gathering.{EachLeads, each_item, each_ended}
 
--- the element that is next is checked, and what it gives is pushed as it is
+-- the next element is checked, and its value pushed
 pub plain_item : {X A B : Type 0} (f : A → Checked B) (g : X
     → A) (all : List A) (old mid now : Option Refusal) (xs : List X) (i : ℕ) (x : X) (ys zs : List B) (y : B)
     → i < length xs → x ≡ get_or xs i x → zs ≡ ys ++ y ∷ []
@@ -19,7 +19,7 @@ plain_item {X} {A} {B} f g all old mid now xs i x ys zs y within is pushed l che
     subst (λ (bs : List B). EachLeads f all old bs (map g (drop (i + 1) xs)) now) (map-id zs)
     (each_item f g (λ (b : B). b) all old mid now xs i x ys zs y within is pushed here checked)
 
--- no element is left
+-- no element remains
 pub plain_done : {X A B : Type 0} (f : A → Checked B) (g : X
     → A) (all : List A) (old now : Option Refusal) (xs : List X) (i : ℕ) (ys : List B)
     → length xs ≤ i → EachLeads f all old ys (map g (drop i xs)) now → Gathers (check_each f all) old now ys

@@ -7,7 +7,7 @@ use Rattle.tql_bind_expr.proofs.Arena.{expr_there, expr_kept}
 use Rattle.tql_bind_change.specs.Cells.{HasAssigned}
 use Rattle.tql_bind_change.proofs.Growing.{IsKept}
 
--- what stays
+-- assignments stay in the arena
 pub assignment_is_kept : IsKept assignment_of HasAssigned
 assignment_is_kept = record {
   same = λ s a h. ap (λ (e : Expr). let x : change.Assignment = record {

@@ -26,7 +26,7 @@ use Rattle.tql_bind_expr.proofs.Gathering.{bound, unless_asked}
 use Rattle.tql_bind_change.specs.Cells.{kind_of, HasValue, HasValues}
 use Rattle.tql_bind_change.proofs.Growing.{IsKept, all_same, all_there}
 
--- ---- what stays
+-- ---- elements that stay
 
 pub expr_is_kept : IsKept expr HasExpr
 expr_is_kept = record { same = λ s x h. expr_kept s x h; there = λ s x h. expr_there s x h }
@@ -42,12 +42,12 @@ tuple_is_kept {A} = record {
 
 -- ---- kinds
 
--- no cell is left
+-- no cell remains
 pub none_left : (kinds : List Kind) → cells_misfit (map plain_kind kinds) [] ≡ not (length kinds == 0)
 none_left [] = refl
 none_left (k ∷ kinds) = ap not (sym (eqb-suc-zero (length kinds)))
 
--- no column is left for a cell
+-- no column remains for a cell
 pub none_for : (kinds : List Kind) (cells : List (Option Kind)) (i : ℕ) → length kinds < 1 → i < length cells
     → true ≡ cells_misfit (map plain_kind kinds) (map (option_map plain_kind) (drop i cells))
 none_for kinds cells i none some = misfit kinds (drop i cells) none (simp length-drop (omega arith))

@@ -1,4 +1,4 @@
--- What an UPDATE says before its WHERE.
+-- The part of an UPDATE before its WHERE.
 use Rattle.std.specs.Prelude.{ℕ, List, map, Option, option_map}
 use Rattle.tql_spec.specs.Binding.{table_number, portion, assigned_columns, sets_period, assignment}
 use Rattle.tql_spec.specs.Change as change
@@ -18,7 +18,7 @@ pub record Assigned : Type 0 where
   pub portion : Option Period
   pub sets : List change.Assignment
 
--- the table, the portion, and what the columns are set to
+-- the table, the portion, and the values of the columns
 abbrev pub update_head : List TableDef → Name → Option PortionTree → List SetTree → Checked Assigned
 update_head defs n p sets = do
   t ← table_number defs n
@@ -28,7 +28,7 @@ update_head defs n p sets = do
   as' ← check_each (assignment (table_at defs t)) sets
   sound (record { table = t; portion = r; sets = as' })
 
--- what it stands for among these terms
+-- its meaning in this arena
 abbrev pub head_of : Terms → Head → Assigned
 head_of t h = record {
   table = h.table;

@@ -1,4 +1,4 @@
-//! Columns by their names and by their numbers.
+//! Lookup of columns by name and by number.
 ghost use Rattle.std.specs.Prelude.{◌≡◌, IfOk, map, slice_index_or};
 ghost use Rattle.std.specs.List.{list_any};
 ghost use Rattle.tql_spec.specs.Binding as binding;
@@ -23,7 +23,7 @@ use tql_syntax_tree::expression::Name;
 use tql_value::refusal::Refusal;
 use tql_value::value::Kind;
 
-/// The number of the column of this name.
+/// Returns the number of the column of this name.
 fn column_place(definition: &TableDef, name: &str) -> Option<usize>
     ensures { result ≡ creation.number_in name.now (names_of definition.now) }
 {
@@ -33,7 +33,7 @@ fn column_place(definition: &TableDef, name: &str) -> Option<usize>
         .position(|column| column.is_named(name))
 }
 
-/// The number of the column of this name. A fault where there is none.
+/// Returns the number of the column of this name. Adds a fault if there is none.
 pub(crate) fn column_number(definition: &TableDef, name: &Word, faults: &mut Faults) -> usize
     ensures { Gathers (creation.column_number (names_of definition.now) (word_of name.now))
         faults.old faults.new result }
@@ -44,7 +44,7 @@ pub(crate) fn column_number(definition: &TableDef, name: &Word, faults: &mut Fau
     )
 }
 
-/// The number of the column that a name means. A fault where there is none.
+/// Returns the number of the column that a name means. Adds a fault if there is none.
 pub(crate) fn named_column(
     memory: Memory,
     definition: &TableDef,
@@ -59,7 +59,7 @@ pub(crate) fn named_column(
     Ok(column_number(definition, &word, faults))
 }
 
-/// The names that are meant.
+/// Decodes names.
 fn meant_names(memory: Memory, names: &[Name<'_>]) -> Result<Vec<Word, Memory>, AllocError>
     ensures { IfOk result (λ texts. map word_of texts.items ≡ map name_of names.now) }
 {
@@ -70,7 +70,7 @@ fn meant_names(memory: Memory, names: &[Name<'_>]) -> Result<Vec<Word, Memory>, 
     Ok(texts)
 }
 
-/// The numbers of the columns of these names. A fault for each that is no column's.
+/// Returns the numbers of the columns of these names. Adds a fault for each name that no column has.
 fn listed_columns(
     memory: Memory,
     definition: &TableDef,
@@ -88,9 +88,9 @@ fn listed_columns(
     Ok(numbers)
 }
 
-/// Adds a fault where a name is repeated. If a fault is known that is reported first or is of the same kind, such as
-/// an unknown column, the names are not compared. Otherwise all are names of a table's at most 64 columns, so that a
-/// repeat is found among any 65 of them.
+/// Adds a fault if a name is repeated. The names are not compared if a known fault is of the same kind, such as an
+/// unknown column, or is reported first. Otherwise all are names of a table's at most 64 columns, so any 65 of them
+/// contain a repeat.
 #[tactic(auto, using(crate::proofs::ColumnLaws::no_more))]
 fn refuse_repeated(names: &[Word], faults: &mut Faults)
     ensures { Gathers (refuse_if (creation.repeats (map word_of names.now)) NameUnknownAmbiguousOrRepeated)
@@ -111,7 +111,7 @@ fn refuse_repeated(names: &[Word], faults: &mut Faults)
     );
 }
 
-/// The numbers of the columns of these names. A fault where one is no column's, and where one stands twice.
+/// Returns the numbers of the columns of these names. Adds a fault if no column has a name, or a name is repeated.
 #[tactic(auto, using(tql_bind_expr::proofs::Gathering::gathering))]
 fn column_numbers(
     memory: Memory,
@@ -140,7 +140,7 @@ fn has_generated(definition: &TableDef, numbers: &[usize]) -> bool
     false
 }
 
-/// Returns what the fault of a list with a generated column is about.
+/// Returns the cause and place of the fault that a list has a generated column.
 fn generated_in(definition: &TableDef, names: &[Word], numbers: &[usize]) -> About {
     for (name, number) in names.iter().zip(numbers.iter()) {
         if definition.is_generated(*number) {
@@ -150,8 +150,8 @@ fn generated_in(definition: &TableDef, names: &[Word], numbers: &[usize]) -> Abo
     About::unknown()
 }
 
-/// The numbers of the columns of these names, which a user may assign. A fault where one is no column's, where one
-/// stands twice, and where one is generated.
+/// Returns the numbers of the columns of these names, for assignment. Adds a fault if no column has a name, a name is
+/// repeated, or a column is generated.
 #[tactic(auto, using(tql_bind_expr::proofs::Gathering::gathering))]
 pub fn assigned_columns(
     memory: Memory,
@@ -172,8 +172,8 @@ pub fn assigned_columns(
     Ok(numbers)
 }
 
-/// The numbers of the columns that an INSERT fills: those of its list, or all that are not generated where it has
-/// none. A fault as in `assigned_columns`.
+/// Returns the numbers of the columns that an INSERT fills: those of its list, or without a list all that are not
+/// generated. Faults: those of `assigned_columns`.
 #[tactic(auto, using(tql_bind_expr::proofs::Gathering::gathering))]
 pub fn insert_columns(
     memory: Memory,
@@ -192,7 +192,7 @@ pub fn insert_columns(
     assigned_columns(memory, definition, &texts, faults)
 }
 
-/// The kind of the column with this number.
+/// Returns the kind of the column with this number, or integer if there is none.
 pub(crate) fn column_kind(definition: &TableDef, number: usize) -> Kind
     ensures { plain_kind result ≡ slice_index_or (kinds_of definition.now) number Ints }
 {
@@ -202,7 +202,7 @@ pub(crate) fn column_kind(definition: &TableDef, number: usize) -> Kind
     }
 }
 
-/// The kinds of the columns with these numbers.
+/// Returns the kinds of the columns with these numbers.
 pub fn kinds_for(
     memory: Memory,
     definition: &TableDef,

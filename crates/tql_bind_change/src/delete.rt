@@ -1,4 +1,4 @@
-//! DELETE.
+//! Name binding of DELETE.
 ghost use Rattle.std.specs.Prelude.{IfOk};
 ghost use Rattle.tql_spec.specs.Binding.{bind};
 ghost use Rattle.tql_spec.specs.Machine.{ChangeRows};
@@ -20,8 +20,8 @@ use tql_expr::terms::Terms;
 use tql_memory::Memory;
 use tql_syntax_tree::statement::Delete;
 
-/// A DELETE. Faults: no table has the name; those of `portion`; a name of WHERE is unknown or ambiguous; its kinds do
-/// not fit; an aggregate stands in it; a literal is out of range.
+/// Binds a DELETE. Faults: no table has the name; those of `portion`; in WHERE, a name that is unknown or ambiguous,
+/// kinds that do not fit, an aggregate, or a literal that is out of range.
 pub fn delete_rows(
     memory: Memory,
     catalog: &Catalog,

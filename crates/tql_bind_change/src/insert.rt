@@ -1,4 +1,4 @@
-//! INSERT of tuples.
+//! Name binding of an INSERT of tuples.
 ghost use Rattle.std.specs.Prelude.{◌∷◌, IfOk, map};
 ghost use Rattle.tql_spec.specs.Binding as binding;
 ghost use Rattle.tql_spec.specs.Machine.{ChangeRows};
@@ -21,10 +21,10 @@ use tql_memory::Memory;
 use tql_syntax_tree::expression::Name;
 use tql_syntax_tree::statement::Tuple;
 
-/// An INSERT of tuples into the table of this name: of the first, and of those behind it. The names are those of its
-/// list of columns; without any it fills all columns that are not generated. Faults: no table has the name; a column
-/// of the list is unknown, repeated or generated; a cell has a fault of its own; a tuple has another number of cells
-/// than there are columns, or a cell of another kind than its column.
+/// Binds an INSERT of tuples, the first and the later ones, into the table of this name. `names` is its list of
+/// columns; without a list it fills all columns that are not generated. Faults: no table has the name; a column of the
+/// list is unknown, repeated or generated; a cell has a fault of its own; a tuple has more or fewer cells than there
+/// are columns, or a cell of another kind than its column.
 pub fn insert_values(
     memory: Memory,
     catalog: &Catalog,

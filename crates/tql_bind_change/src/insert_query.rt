@@ -1,4 +1,4 @@
-//! INSERT from a query.
+//! Name binding of an INSERT from a query.
 ghost use Rattle.std.specs.Prelude.{◌≤◌, All, IfOk, length, map};
 ghost use Rattle.tql_spec.specs.Binding as binding;
 ghost use Rattle.tql_spec.specs.Machine.{ChangeRows};
@@ -26,8 +26,8 @@ use tql_syntax_tree::statement::{OrderTree, SelectTree};
 use tql_value::refusal::Refusal;
 use tql_value::value::Kind;
 
-/// Returns what the fault of a query is about that does not give a column of the right type for each that is filled in
-/// the table at `start`.
+/// Returns the cause and place of the fault that a query does not give one column of the right type for each that is
+/// filled. The name of the table is at `start`.
 fn misfit(start: u32, wanted: &[Kind], kinds: &[Option<Kind>]) -> About {
     for (number, (column, output)) in wanted.iter().zip(kinds.iter()).enumerate() {
         if is_other_kind(*column, *output) {
@@ -39,10 +39,10 @@ fn misfit(start: u32, wanted: &[Kind], kinds: &[Option<Kind>]) -> About {
     About::at(Cause::OutputCount, start).counts(kinds.len(), wanted.len())
 }
 
-/// An INSERT of the rows of a query into the table of this name. The names are those of its list of columns; without
-/// any it fills all columns that are not generated. Faults: no table has the name; a column of the list is unknown,
-/// repeated or generated; those of the query; the query has another number of output columns than are filled, or one
-/// of another kind. The only error is a refused growth.
+/// Binds an INSERT of the rows of a query into the table of this name. `names` is its list of columns; without a list
+/// it fills all columns that are not generated. Faults: no table has the name; a column of the list is unknown,
+/// repeated or generated; those of the query; the query has more or fewer output columns than are filled, or one of
+/// another kind. The only error is a refused allocation.
 pub fn insert_select(
     memory: Memory,
     catalog: &Catalog,

@@ -1,5 +1,4 @@
-//! INSERT, UPDATE and DELETE with their names bound. Every fault is gathered, and the first in the order of report is
-//! kept.
+//! Name binding of INSERT, UPDATE and DELETE. Every fault is collected, and the first in the order of report is kept.
 #![tactic(auto)]
 
 mod columns;

@@ -24,7 +24,7 @@ use tql_value::literal::{read_date, read_timestamp};
 use tql_value::refusal::Refusal;
 use tql_value::value::Kind;
 
-/// The kind of a point.
+/// Returns the kind of a point.
 fn point_kind(point: PointTree<'_>) -> Kind
     ensures { plain_kind result ≡ binding.point_kind (point_of point.entry) }
 {
@@ -34,7 +34,7 @@ fn point_kind(point: PointTree<'_>) -> Kind
     }
 }
 
-/// The point that a literal reads as, in days or in microseconds since 1970-01-01; none where it reads as none.
+/// Returns the point that a literal gives, in days or in microseconds since 1970-01-01. None if it is not valid.
 fn read_point(memory: Memory, point: PointTree<'_>) -> Result<Option<i64>, AllocError>
     ensures { IfOk result (λ read. read ≡ binding.read_point (point_of point.entry)) }
 {
@@ -50,7 +50,7 @@ fn read_point(memory: Memory, point: PointTree<'_>) -> Result<Option<i64>, Alloc
     }
 }
 
-/// The kind of the points in the column with this number.
+/// Returns the kind of the points in the column with this number, or DATE if there is none.
 fn points_kind(definition: &TableDef, number: usize) -> Kind
     ensures { plain_kind result ≡ kind_at definition.now number }
 {
@@ -60,7 +60,7 @@ fn points_kind(definition: &TableDef, number: usize) -> Kind
     }
 }
 
-/// The kind of the points of the application period of this name. A fault where the table has none of the name.
+/// Returns the kind of the points of the table's application period, if any. Adds a fault unless it has this name.
 #[tactic(auto, using(tql_bind_expr::proofs::Gathering::gathering))]
 fn period_kind(
     memory: Memory,
@@ -90,8 +90,8 @@ fn period_kind(
     Ok(Some(points_kind(definition, application.start)))
 }
 
-/// The kind of the points of the period that a portion names. A fault where it is SYSTEM_TIME, whose points are
-/// moments, and where it is no application period of the table.
+/// Returns the kind of the points of the period that a portion names, if known. Adds a fault if it is SYSTEM_TIME,
+/// whose points are moments, or is no application period of the table.
 #[tactic(auto, using(tql_bind_expr::proofs::Gathering::gathering))]
 fn portion_period(
     memory: Memory,
@@ -120,14 +120,14 @@ fn portion_period(
     }
 }
 
-/// Whether a point of the portion is known to be of another kind than this.
+/// Whether the kind is known and a point of the portion is of another.
 fn is_other_point(kind: Option<Kind>, portion: PortionTree<'_>) -> bool
     ensures { result ≡ differs (option_map plain_kind kind) (portion_of portion.entry) }
 {
     differ(kind, Some(point_kind(portion.from))) || differ(kind, Some(point_kind(portion.to)))
 }
 
-/// The portion between two points. A fault where a literal reads as none, and where they do not rise.
+/// Returns the portion between two points. Adds a fault if one is missing, or the first is not before the second.
 #[tactic(auto, using(tql_bind_expr::proofs::Gathering::gathering))]
 fn rising(start: u32, from: Option<i64>, to: Option<i64>, faults: &mut Faults) -> Option<Period>
     ensures { Gathers (binding.rising from to) faults.old faults.new (option_map points_of result) }
@@ -154,7 +154,7 @@ fn name_start(name: Name<'_>) -> u32 {
     name.start
 }
 
-/// The portion that is written.
+/// Binds a portion.
 fn named_portion(
     memory: Memory,
     definition: &TableDef,
@@ -177,8 +177,8 @@ fn named_portion(
     Ok(rising(start, from, to, faults))
 }
 
-/// The portion of a change; none where none is written. Faults: its period is SYSTEM_TIME, or no application period
-/// of the table; a point is of another kind than the period's, or reads as none; the points do not rise.
+/// Binds the portion of a change, if one is written. Faults: its period is SYSTEM_TIME, or no application period of the
+/// table; a point is of another kind than the period's, or is not valid; the first point is not before the second.
 pub fn portion(
     memory: Memory,
     definition: &TableDef,
@@ -195,7 +195,7 @@ pub fn portion(
     }
 }
 
-/// Whether the column with this number is of the table's application period.
+/// Whether the column with this number belongs to the table's application period.
 fn is_of_period(definition: &TableDef, number: usize) -> bool
     ensures { result ≡ creation.has_number number (creation.period_columns definition.now.application) }
 {
@@ -216,8 +216,8 @@ fn set_start(first: &SetTree<'_>, more: &[SetTree<'_>], index: usize) -> u32 {
     }
 }
 
-/// Returns what the fault of an UPDATE of a portion that sets a column of the period is about. The numbers are those of
-/// the columns that are set.
+/// Returns the cause and place of the fault that an UPDATE of a portion sets a column of the period. `numbers` are the
+/// columns that are set.
 pub(crate) fn period_assigned(
     definition: &TableDef,
     first: &SetTree<'_>,

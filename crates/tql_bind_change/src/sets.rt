@@ -25,16 +25,16 @@ use tql_memory::Memory;
 use tql_syntax_tree::statement::SetTree;
 use tql_value::refusal::Refusal;
 
-/// The one reference in the scope of a change: its table, known by its own name.
+/// Returns the one reference in the scope of a change: its table, known by its own name.
 pub fn own_reference(definition: &TableDef) -> Known<'_>
     ensures { scope_of (result ∷ []) ≡ binding.own_scope definition.now }
 {
-    // That the numbers of the columns lie within 64 bits is told by their slice.
+    // The length of the slice bounds the column numbers, so they fit in 64 bits.
     let _width = definition.columns().len();
     known_table(definition.name(), definition, 0, 0)
 }
 
-/// An assignment. Faults: its column is unknown; its cell has a fault of its own, or is of another kind than the
+/// Binds an assignment. Faults: its column is unknown; its cell has a fault of its own, or is of another kind than the
 /// column.
 #[tactic(auto, using(tql_bind_expr::proofs::Gathering::gathering))]
 fn assignment(
@@ -66,8 +66,8 @@ fn assignment(
     })
 }
 
-/// The assignments of SET: the first, and those behind it. Faults: as in each; whether a user may assign the columns
-/// is for `set_columns`.
+/// Binds the assignments of SET: the first and the later ones. Faults: those of each. `set_columns` decides whether a
+/// user may assign the columns.
 pub fn assignments(
     memory: Memory,
     definition: &TableDef,
@@ -91,7 +91,7 @@ pub fn assignments(
     Ok(sets)
 }
 
-/// The names of the columns of SET, as they are meant.
+/// Decodes the names of the columns of SET.
 fn set_names(
     memory: Memory,
     first: &SetTree<'_>,
@@ -109,7 +109,7 @@ fn set_names(
     Ok(names)
 }
 
-/// The numbers of the columns of SET. Faults: one is unknown, repeated or generated.
+/// Returns the numbers of the columns of SET. Faults: one is unknown, repeated or generated.
 pub fn set_columns(
     memory: Memory,
     definition: &TableDef,

@@ -22,8 +22,8 @@ use tql_syntax_tree::statement::{CellTree, Tuple};
 use tql_value::refusal::Refusal;
 use tql_value::value::Kind;
 
-/// Whether values of these kinds, where they are known, do not fit columns of these kinds: they are more or fewer, or
-/// one is of another kind.
+/// Whether values of these kinds, as far as they are known, do not fit columns of these kinds: there are more or fewer
+/// values, or one is of another kind.
 pub(crate) fn cells_misfit(kinds: &[Kind], cells: &[Option<Kind>]) -> bool
     ensures { result ≡ binding.cells_misfit (map plain_kind kinds.now) (map (option_map plain_kind) cells.now) }
 {
@@ -42,7 +42,7 @@ pub(crate) fn cells_misfit(kinds: &[Kind], cells: &[Option<Kind>]) -> bool
     !left.is_empty()
 }
 
-/// Returns what the fault of a row is about that does not have a value of the right type for each column.
+/// Returns the cause and place of the fault that a row does not have one value of the right type for each column.
 fn misfit(is_misfit: bool, kinds: &[Kind], cells: &[Typed]) -> About {
     if !is_misfit {
         return About::unknown();
@@ -64,7 +64,7 @@ fn misfit(is_misfit: bool, kinds: &[Kind], cells: &[Typed]) -> About {
     About::unknown()
 }
 
-/// A cell of VALUES, where no name stands for anything.
+/// Binds a cell of VALUES, in which no name can be used.
 fn plain_cell(
     memory: Memory,
     written: &CellTree<'_>,
@@ -80,7 +80,7 @@ fn plain_cell(
     cell(memory, scope, written, terms, faults)
 }
 
-/// The cells of a tuple.
+/// Binds the cells of a tuple.
 fn cells(
     memory: Memory,
     tuple: &Tuple<'_>,
@@ -101,7 +101,7 @@ fn cells(
     Ok(cells)
 }
 
-/// The kinds of cells.
+/// Returns the kinds of cells.
 fn cell_kinds(memory: Memory, cells: &[Typed]) -> Result<Vec<Option<Kind>, Memory>, AllocError>
     ensures { IfOk result (λ v. map (option_map plain_kind) v.items ≡ map kind_of cells.now) }
 {
@@ -112,7 +112,7 @@ fn cell_kinds(memory: Memory, cells: &[Typed]) -> Result<Vec<Option<Kind>, Memor
     Ok(kinds)
 }
 
-/// The expressions of cells.
+/// Returns the expressions of cells.
 fn values(memory: Memory, cells: &[Typed]) -> Result<Vec<ExprId, Memory>, AllocError>
     ensures { IfOk result (λ v. v.items ≡ map (λ cell. cell.expr) cells.now) }
 {
@@ -123,7 +123,7 @@ fn values(memory: Memory, cells: &[Typed]) -> Result<Vec<ExprId, Memory>, AllocE
     Ok(values)
 }
 
-/// A tuple for columns of these kinds. A fault where it has more or fewer cells, or one of another kind.
+/// Binds a tuple for columns of these kinds. Adds a fault if it has more or fewer cells, or one of another kind.
 #[tactic(auto, using(tql_bind_expr::proofs::Gathering::gathering))]
 fn tuple(
     memory: Memory,
@@ -146,7 +146,7 @@ fn tuple(
     values(memory, &cells)
 }
 
-/// Tuples for columns of these kinds: the first, and those behind it.
+/// Binds tuples for columns of these kinds: the first and the later ones.
 pub(crate) fn tuples(
     memory: Memory,
     kinds: &[Kind],

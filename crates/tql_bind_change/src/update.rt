@@ -1,4 +1,4 @@
-//! UPDATE.
+//! Name binding of UPDATE.
 ghost use Rattle.std.specs.Prelude.{◌∷◌, All, IfOk, option_map};
 ghost use Rattle.tql_spec.specs.Binding.{bind};
 ghost use Rattle.tql_spec.specs.Machine.{ChangeRows};
@@ -26,8 +26,7 @@ use tql_period::period::Period;
 use tql_syntax_tree::statement::Update;
 use tql_value::refusal::Refusal;
 
-/// What an UPDATE says before its WHERE: its table, by the place among the tables, its portion, or none, and its
-/// assignments.
+/// The parts of an UPDATE before its WHERE: the index of its table, its portion, if any, and its assignments.
 #[derive(Drop)]
 pub struct Head {
     pub table: usize,
@@ -35,9 +34,9 @@ pub struct Head {
     pub sets: Vec<Assignment, Memory>,
 }
 
-/// What an UPDATE says before its WHERE. Faults: no table has the name; those of `portion`; a column of SET is unknown,
-/// repeated or generated, or of the period whose portion is changed; a cell has a fault of its own, or is of another
-/// kind than its column.
+/// Binds the parts of an UPDATE before its WHERE. Faults: no table has the name; those of `portion`; a column of SET is
+/// unknown, repeated or generated, or belongs to the period whose portion is changed; a cell has a fault of its own, or
+/// is of another kind than its column.
 pub(crate) fn update_head(
     memory: Memory,
     catalog: &Catalog,
@@ -77,8 +76,8 @@ pub(crate) fn update_head(
     })
 }
 
-/// An UPDATE. Faults: those of `update_head`; a name of WHERE is unknown or ambiguous; its kinds do not fit; an
-/// aggregate stands in it; a literal is out of range.
+/// Binds an UPDATE. Faults: those of `update_head`; in WHERE, a name that is unknown or ambiguous, kinds that do not
+/// fit, an aggregate, or a literal that is out of range.
 pub fn update_rows(
     memory: Memory,
     catalog: &Catalog,

@@ -20,7 +20,7 @@ use Rattle.tql_bind_draft.specs.declared.draft.NewColumn.{NewColumn}
 
 -- ---- by name
 
--- whether this is the column of the name
+-- whether the column has this name
 abbrev pub is_called : Name → NewColumn → Bool
 is_called n c = same_text n (string_bytes c.name.text)
 
@@ -41,7 +41,7 @@ number_from_zero n (c ∷ cs) =
     ap (λ o. if same_text n (string_bytes c.name.text) then Some 0 else o) (next_of (is_called n) 0 cs
     ∙ ap next_place (number_from_zero n cs))
 
--- the place at which a column is found is its number
+-- the index at which a column is found is its number
 pub number_of_columns : (n : Name) (columns : List NewColumn)
     → position (is_called n) columns ≡ number_in n (names_in (map column_of columns))
 number_of_columns n columns = position_from-zero (is_called n) columns ∙ number_from_zero n columns
@@ -51,7 +51,7 @@ some_next true o = refl
 some_next false None = refl
 some_next false (Some i) = refl
 
--- a name has a number where it is there
+-- a name has a number exactly if it is among the names
 pub known_is : (n : Name) (ms : List Name) → is_some (number_in n ms) ≡ has_name n ms
 known_is n [] = refl
 known_is n (m ∷ ms) = some_next (same_text n m) (number_in n ms) ∙ ap (λ (b : Bool). same_text n m || b) (known_is n ms)
@@ -71,7 +71,7 @@ pub all_given : (cs : List NewColumn)
 all_given [] = refl
 all_given (c ∷ cs) = λ i. is_given_as c.generated i && all_given cs i
 
--- a column of a length or a precision that is not allowed
+-- a column with a length or a precision that is not allowed
 abbrev pub is_misfit : NewColumn → Bool
 is_misfit c = has_bad_number (type_of c.type_name)
 
@@ -80,7 +80,7 @@ pub any_misfit : (cs : List NewColumn)
 any_misfit [] = refl
 any_misfit (c ∷ cs) = ap (λ (b : Bool). is_misfit c || b) (any_misfit cs)
 
--- a column that is generated so
+-- whether a column is generated in a given way
 abbrev pub has_generated : (Option tree.Generated → Bool) → NewColumn → Bool
 has_generated p c = p (column_of c).generated
 
@@ -97,7 +97,7 @@ counted p i (c ∷ cs) =
 
 -- ---- by number
 
--- a test or nothing
+-- a test, or false
 pub or_false : (b : Bool) → b || false ≡ b
 or_false true = refl
 or_false false = refl
@@ -127,7 +127,7 @@ head_number : (b : Bool) (j k : ℕ) (rest : List ℕ)
 head_number true j k rest = refl
 head_number false j k rest = refl
 
--- no number is before the first
+-- no number precedes the first
 none_before : (q : ColumnTree → Bool) (j k : ℕ) (cs : List ColumnTree) → j < k
     → has_number j (numbers_where q k cs) ≡ false
 none_before q j k [] h = refl
@@ -136,7 +136,7 @@ none_before q j k (c ∷ cs) h =
     ∙ (λ i. (q c && is_other j k h i) || none_before q j (suc k) cs (omega (arith, h)) i)
     ∙ ap (λ (b : Bool). b || false) (and_false (q c))
 
--- a number is there where its column passes the test
+-- a number is present exactly if its column passes the test
 number_holds : (q : ColumnTree → Bool) (j k i : ℕ) (cs : List ColumnTree) (d : ColumnTree) → j ≡ k + i → i < length cs
     → has_number j (numbers_where q k cs) ≡ q (get_or cs i d)
 number_holds q j k i [] d e h = absurd (omega (arith, h))
@@ -151,7 +151,7 @@ number_holds q j k (suc i) (c ∷ cs) d e h =
     (omega (arith, h)) m)
     ∙ ap (λ (b : Bool). b || q (get_or cs i d)) (and_false (q c))
 
--- no number is behind the last
+-- no number follows the last
 none_behind : (q : ColumnTree → Bool) (j k : ℕ) (cs : List ColumnTree) → k + length cs ≤ j
     → has_number j (numbers_where q k cs) ≡ false
 none_behind q j k [] h = refl
@@ -160,14 +160,14 @@ none_behind q j k (c ∷ cs) h =
     ∙ (λ i. (q c && is_other_than j k (omega (arith, h)) i) || none_behind q j (suc k) cs (omega (arith, h)) i)
     ∙ ap (λ (b : Bool). b || false) (and_false (q c))
 
--- where no column is, none is generated
+-- if there is no column, none is generated
 pub not_generated : (q : ColumnTree → Bool) (cs : List NewColumn) (i : ℕ) → length cs ≤ i
     → false ≡ has_number i (numbers_where q 0 (map column_of cs))
 not_generated q cs i h =
     let e : length (map column_of cs) ≡ length cs = length-map cs column_of in
     sym (none_behind q i 0 (map column_of cs) (omega (arith, h, e)))
 
--- the column of a number is generated so where its number is among those
+-- the column with this number is generated in a given way exactly if its number is among those
 pub generated_at : (p : Option tree.Generated → Bool) (cs : List NewColumn) (i : ℕ) (c : NewColumn) → i < length cs
     → c ≡ get_or cs i c
     → p (column_of c).generated ≡ has_number i (numbers_where (λ c. p c.generated) 0 (map column_of cs))
@@ -179,7 +179,7 @@ generated_at p cs i c h e =
     ∙ ap (λ (t : ColumnTree). p t.generated) (get_or-map column_of cs i c (column_of c) h)
     )
 
--- the kind of the column of a number
+-- the kind of the column with this number
 pub kind_there : (cs : List NewColumn) (i : ℕ) (c : NewColumn) → i < length cs → c ≡ get_or cs i c
     → kind_of_type (type_of c.type_name) ≡ kind_in (map column_of cs) i
 kind_there cs i c h e =

@@ -24,19 +24,19 @@ systems_split (PeriodElement None s t) es = refl
 systems_split (PeriodElement (Some n) s t) es = refl
 systems_split (ConstraintElement c) es = refl
 
--- with one more element the columns are those so far and its own
+-- with one more element, the columns are those so far and those of the element
 pub columns_more : (cs : List ColumnTree) (e : Element) (es : List Element)
     → (cs ++ columns_of (e ∷ [])) ++ columns_of es ≡ cs ++ columns_of (e ∷ es)
 columns_more cs e es = append_assoc cs (columns_of (e ∷ [])) (columns_of es)
     ∙ ap (λ (xs : List ColumnTree). cs ++ xs) (sym (columns_split e es))
 
--- and so are the application periods
+-- the same for application periods
 pub applications_more : (ps : List PeriodPart) (e : Element) (es : List Element)
     → (ps ++ application_parts (e ∷ [])) ++ application_parts es ≡ ps ++ application_parts (e ∷ es)
 applications_more ps e es = append_assoc ps (application_parts (e ∷ [])) (application_parts es)
     ∙ ap (λ (xs : List PeriodPart). ps ++ xs) (sym (applications_split e es))
 
--- and the system periods
+-- the same for system periods
 pub systems_more : (ps : List PeriodPart) (e : Element) (es : List Element)
     → (ps ++ system_parts (e ∷ [])) ++ system_parts es ≡ ps ++ system_parts (e ∷ es)
 systems_more ps e es = append_assoc ps (system_parts (e ∷ [])) (system_parts es)
@@ -58,14 +58,14 @@ references_split (ConstraintElement (KeyTree b n ns p)) es = refl
 references_split (ConstraintElement (ForeignTree c n p)) es = refl
 references_split (ConstraintElement (CheckTree c)) es = refl
 
--- and the keys
+-- the same for keys
 pub keys_more : (ks : List KeyPart) (e : Element) (es : List Element)
     → (ks ++ key_parts (constraints_of (e ∷ []))) ++ key_parts (constraints_of es)
     ≡ ks ++ key_parts (constraints_of (e ∷ es))
 keys_more ks e es = append_assoc ks (key_parts (constraints_of (e ∷ []))) (key_parts (constraints_of es))
     ∙ ap (λ (xs : List KeyPart). ks ++ xs) (sym (keys_split e es))
 
--- and the references
+-- the same for references
 pub references_more : (fs : List ReferencePart) (e : Element) (es : List Element)
     → (fs ++ reference_parts (constraints_of (e ∷ []))) ++ reference_parts (constraints_of es)
     ≡ fs ++ reference_parts (constraints_of (e ∷ es))

@@ -1,4 +1,4 @@
--- The faults of a period of two columns, gathered part by part; and faults that change nothing.
+-- The faults of a period of two columns, collected part by part, and faults that change nothing.
 use Rattle.std.specs.Prelude.{◌≡◌, refl, ℕ, Bool, true, false, nat_lt, ◌≤◌, List, Some, Option}
 use Rattle.std.proofs.Common.{arith}
 use Rattle.std.proofs.lemmas.Bool.Decides.{nat_tests}
@@ -10,7 +10,7 @@ use Rattle.tql_spec.specs.Creation.{column_number}
 use Rattle.tql_bind_expr.specs.Gathered.{after, Gathers}
 use Rattle.tql_bind_expr.proofs.Gathering.{bound, sound_here, unless_asked}
 
--- what two columns give by their numbers, with the faults of their kinds and of their form
+-- the value of two columns, by their numbers, with the faults of their kinds and of their form
 abbrev pub of_columns : {B : Type 0} → List Name → Name → Name → (ℕ → ℕ → Bool) → (ℕ → ℕ → Bool) → (ℕ → ℕ → B)
     → Checked B
 of_columns names n m misfit wrong value = do
@@ -43,7 +43,7 @@ columns_gathered {B} names n m misfit wrong value old m1 m2 m3 new s e a b start
     FormNotAllowedHere >>= λ v. sound (value i j))
     old m1 new s (value s e) start second
 
--- a fault that is reported after the first so far, or in its place, changes nothing
+-- a fault changes nothing if it is of the same kind as the first so far, or is reported after it
 pub no_more : (x e : spec.Refusal) (b : Bool) → place x ≤ place e → after (Some x) (fault_if b e) ≡ Some x
 unfolding after
 no_more x e false h = refl

@@ -17,7 +17,7 @@ sought : (o : Option ℕ) → (or_first o).faults ++ [] ≡ fault_if (not (is_so
 sought None = refl
 sought (Some i) = refl
 
--- the fault of one name that is sought: it is not there
+-- the fault of looking up one name: it is not among the names
 pub one_sought : (n : Name) (ms : List Name)
     → (check_each (column_number ms) (n ∷ [])).faults
     ≡ fault_if (not (has_name n ms)) NameUnknownAmbiguousOrRepeated
@@ -28,7 +28,7 @@ or_assoc : (a b c : Bool) → (a || b) || c ≡ a || (b || c)
 or_assoc true b c = refl
 or_assoc false b c = refl
 
--- a test of one list behind another
+-- a test on two lists in sequence
 pub any_append : {A : Type 0} (p : A → Bool) (xs ys : List A) → list_any p (xs ++ ys) ≡ list_any p xs || list_any p ys
 any_append p [] ys = refl
 any_append p (x ∷ xs) ys =

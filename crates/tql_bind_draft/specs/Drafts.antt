@@ -1,4 +1,4 @@
--- What is written in a CREATE TABLE, and its columns, periods, names, lists of columns and keys.
+-- The parts of a CREATE TABLE as written, and the bound columns, periods, names, lists of columns and keys.
 use Rattle.std.specs.Prelude.{ℕ, Bool, not, ◌&&◌, ◌||◌, List, [], ◌∷◌, ◌++◌, map, filter, length, Option, Some, None}
 use Rattle.std.specs.Prelude.{option_map, is_some, slice_index_or, if◌then◌else◌}
 use Rattle.std.specs.List.{flat_map, list_any}
@@ -23,7 +23,7 @@ use Rattle.tql_bind_draft.specs.declared.draft.NewKey.{NewKey}
 use Rattle.tql_bind_draft.specs.declared.draft.NewReference.{NewReference}
 use Rattle.tql_bind_draft.specs.declared.draft.Draft.{Draft}
 
--- ---- what is written
+-- ---- the parts as written
 
 -- a list of columns as written, and its period
 pub record ListPart : Type 0 where
@@ -35,13 +35,13 @@ pub record KeyPart : Type 0 where
   pub primary : Bool
   pub list : ListPart
 
--- a reference as written: its columns, the table that it is to, and the columns there
+-- a reference as written: its columns, the table that it references, and the columns there
 pub record ReferencePart : Type 0 where
   pub child : ListPart
   pub parent : Name
   pub named : ListPart
 
--- all that is written of a new table but its checks
+-- all parts of a new table as written, except the checks
 pub record Written : Type 0 where
   pub columns : List ColumnTree
   pub applications : List PeriodPart
@@ -49,7 +49,7 @@ pub record Written : Type 0 where
   pub keys : List KeyPart
   pub references : List ReferencePart
 
--- the column
+-- the column that a value of the code represents
 abbrev pub column_of : NewColumn → ColumnTree
 column_of c = record {
   name = word_of c.name;
@@ -58,7 +58,7 @@ column_of c = record {
   generated = option_map generated_of c.generated;
 }
 
--- the application period
+-- the application period of such a value
 abbrev pub application_part : NewApplication → PeriodPart
 application_part p = record {
   name = Some (word_of p.name);
@@ -66,7 +66,7 @@ application_part p = record {
   end = word_of p.end;
 }
 
--- the system period
+-- the system period of such a value
 abbrev pub system_part : NewSystem → PeriodPart
 system_part p = record { name = None; start = word_of p.start; end = word_of p.end }
 
@@ -102,7 +102,7 @@ keys_in d = map key_part d.keys.items
 abbrev pub references_in : Draft → List ReferencePart
 references_in d = map reference_part d.references.items
 
--- all of them
+-- all parts
 abbrev pub written_of : Draft → Written
 written_of d = record {
   columns = columns_in d;
@@ -134,7 +134,7 @@ reference_parts (ForeignTree child n names ∷ cs) =
     record { child = list_of child; parent = n; named = list_of names } ∷ reference_parts cs
 reference_parts (_ ∷ cs) = reference_parts cs
 
--- what is written in the elements, but the checks
+-- the parts in the elements, except the checks
 abbrev pub written_in : List Element → Written
 written_in es = record {
   columns = columns_of es;
@@ -144,21 +144,21 @@ written_in es = record {
   references = reference_parts (constraints_of es);
 }
 
--- ---- the definition's words, of columns and of periods alone
+-- ---- the terms of the definition, for columns or periods alone
 
 -- the names
 abbrev pub names_in : List ColumnTree → List Name
 names_in cs = map (λ (c : ColumnTree). c.name) cs
 
--- the columns that are ROW START, by number
+-- the numbers of the ROW START columns
 abbrev pub starts_in : List ColumnTree → List ℕ
 starts_in cs = numbers_where (λ c. is_row_start c.generated) 0 cs
 
--- the columns that are ROW END, by number
+-- the numbers of the ROW END columns
 abbrev pub stops_in : List ColumnTree → List ℕ
 stops_in cs = numbers_where (λ c. is_row_end c.generated) 0 cs
 
--- whether the column of this number is generated
+-- whether the column with this number is generated
 abbrev pub is_generated_in : List ColumnTree → ℕ → Bool
 is_generated_in cs i = has_number i (starts_in cs) || has_number i (stops_in cs)
 
@@ -166,11 +166,11 @@ is_generated_in cs i = has_number i (starts_in cs) || has_number i (stops_in cs)
 abbrev pub kinds_in : List ColumnTree → List Kind
 kinds_in cs = map (λ (c : ColumnTree). kind_of_type c.type_name) cs
 
--- the kind of the column of this number
+-- the kind of the column with this number
 abbrev pub kind_in : List ColumnTree → ℕ → Kind
 kind_in cs i = slice_index_or (kinds_in cs) i Ints
 
--- an application period
+-- a bound application period
 abbrev pub application_in : List ColumnTree → PeriodPart → Checked Application
 application_in cs p = do
   s ← column_number (names_in cs) p.start
@@ -179,7 +179,7 @@ application_in cs p = do
   v ← refuse_if (same_text p.start p.end || is_generated_in cs s || is_generated_in cs e) FormNotAllowedHere
   sound (record { name = slice_index_or (listed p.name) 0 []; start = s; end = e })
 
--- a system period
+-- a bound system period
 abbrev pub system_in : List ColumnTree → PeriodPart → Checked System
 system_in cs p = do
   s ← column_number (names_in cs) p.start
@@ -201,7 +201,7 @@ primary_in ks = flat_map (λ (k : KeyPart). if k.primary then k.list.columns els
 abbrev pub has_primary : Name → KeyPart → Bool
 has_primary n k = k.primary && has_name n k.list.columns
 
--- how many keys are primary
+-- the number of primary keys
 abbrev pub primary_count_in : List KeyPart → ℕ
 primary_count_in ks = length (filter (λ (k : KeyPart). k.primary) ks)
 
@@ -211,7 +211,7 @@ implied_in ps ks = flat_map part_names ps ++ primary_in ks
 
 -- ---- keys and references
 
--- a list of columns, with a period or without
+-- a bound list of columns, with or without a period
 abbrev pub listed_in : Written → List Application → ListPart → Checked (List ℕ)
 listed_in w as' l = do
   is ← column_numbers (names_in w.columns) l.columns
@@ -219,6 +219,6 @@ listed_in w as' l = do
   unless (list_any (is_generated_in w.columns) is || shares_number is (period_columns (period_called l.period as')))
       FormNotAllowedHere is
 
--- a key
+-- a bound key
 abbrev pub key_in : Written → List Application → KeyPart → Checked Key
 key_in w as' k = listed_in w as' k.list >>= λ is. sound (record { columns = is; by_period = is_some k.list.period })

@@ -1,4 +1,4 @@
-//! What is asked of the columns of a new table.
+//! Tests and properties of the columns of a new table.
 ghost use Rattle.std.specs.Prelude.{◌≡◌, ◌||◌, length, map, is_some, Some, None, if◌then◌else◌};
 ghost use Rattle.std.specs.List.{list_any, list_all};
 ghost use Rattle.tql_spec.specs.Calendar.{number_of};
@@ -17,14 +17,14 @@ use tql_bind_expr::texts::is_same_text;
 use tql_syntax_tree::statement::{Generated, TypeName};
 use tql_value::value::Kind;
 
-/// Whether this is the name of the column.
+/// Whether the column has this name.
 fn is_named(column: &NewColumn<'_>, name: &str) -> bool
     ensures { result ≡ same_text name.now (word_of column.now.name) }
 {
     is_same_text(name, &column.name.text)
 }
 
-/// The number of the column of this name, from 0.
+/// Returns the number, from 0, of the column of this name.
 pub fn number_in(columns: &[NewColumn<'_>], name: &str) -> Option<usize>
     ensures { result ≡ spec.number_in name.now (names_in (map column_of columns.now)) }
 {
@@ -39,7 +39,7 @@ pub fn has_column(columns: &[NewColumn<'_>], name: &str) -> bool
     number_in(columns, name).is_some()
 }
 
-/// The length of a VARCHAR, from 1 to 65,535 characters, where it is allowed.
+/// Returns the length of a VARCHAR if it is allowed: from 1 to 65,535 characters.
 fn length_of(digits: &[u8]) -> Option<u64>
     ensures { result ≡ (if spec.is_length (number_of digits.now) then Some (number_of digits.now) else None) }
 {
@@ -65,7 +65,7 @@ fn has_bad_number(type_name: TypeName<'_>) -> bool
     }
 }
 
-/// The kind of a type.
+/// Returns the kind of a type.
 pub fn kind_of(type_name: TypeName<'_>) -> Kind
     ensures { plain_kind result ≡ spec.kind_of_type (type_of type_name.entry) }
 {
@@ -77,7 +77,7 @@ pub fn kind_of(type_name: TypeName<'_>) -> Kind
     }
 }
 
-/// The most characters of a type, where it limits them to a length that is allowed.
+/// Returns the maximum number of characters of a type, if it has one that is allowed.
 pub fn limit_of(type_name: TypeName<'_>) -> Option<u64>
     ensures { result ≡ spec.limit_of_type (type_of type_name.entry) }
 {
@@ -96,7 +96,7 @@ pub fn has_misfit(columns: &[NewColumn<'_>]) -> bool
         .any(|column| has_bad_number(column.type_name))
 }
 
-/// Returns what the fault of a type with a length or a precision out of range is about.
+/// Returns the cause and place of the fault that the length or precision of a type is out of range.
 pub fn misfit(columns: &[NewColumn<'_>]) -> About {
     for column in columns {
         if has_bad_number(column.type_name) {
@@ -106,14 +106,14 @@ pub fn misfit(columns: &[NewColumn<'_>]) -> About {
     About::unknown()
 }
 
-/// Whether no column is left to which a user can give values.
+/// Whether all columns are generated, so that a user can assign none.
 pub fn are_all_generated(columns: &[NewColumn<'_>]) -> bool
     ensures { result ≡ list_all (λ (c : tree.ColumnTree). is_some c.generated) (map column_of columns.now) }
 {
     columns.iter().all(|column| column.generated.is_some())
 }
 
-/// The kind of the column of this number; where there is none, that of integers stands for it.
+/// Returns the kind of the column with this number, or integer if there is none.
 pub fn kind_at(columns: &[NewColumn<'_>], number: usize) -> Kind
     ensures { plain_kind result ≡ kind_in (map column_of columns.now) number }
 {
@@ -137,21 +137,21 @@ fn is_row_end(column: &NewColumn<'_>) -> bool
     matches!(column.generated, Some(Generated::RowEnd))
 }
 
-/// How many columns are ROW START.
+/// Returns the number of ROW START columns.
 pub fn start_count(columns: &[NewColumn<'_>]) -> usize
     ensures { result ≡ length (starts_in (map column_of columns.now)) }
 {
     columns.iter().filter(|column| is_row_start(column)).count()
 }
 
-/// How many columns are ROW END.
+/// Returns the number of ROW END columns.
 pub fn end_count(columns: &[NewColumn<'_>]) -> usize
     ensures { result ≡ length (stops_in (map column_of columns.now)) }
 {
     columns.iter().filter(|column| is_row_end(column)).count()
 }
 
-/// Whether a column of this number is there and is ROW START.
+/// Whether the column with this number exists and is ROW START.
 pub fn is_start_at(columns: &[NewColumn<'_>], number: usize) -> bool
     ensures { result ≡ spec.has_number number (starts_in (map column_of columns.now)) }
 {
@@ -161,7 +161,7 @@ pub fn is_start_at(columns: &[NewColumn<'_>], number: usize) -> bool
     }
 }
 
-/// Whether a column of this number is there and is ROW END.
+/// Whether the column with this number exists and is ROW END.
 pub fn is_end_at(columns: &[NewColumn<'_>], number: usize) -> bool
     ensures { result ≡ spec.has_number number (stops_in (map column_of columns.now)) }
 {
@@ -171,7 +171,7 @@ pub fn is_end_at(columns: &[NewColumn<'_>], number: usize) -> bool
     }
 }
 
-/// Whether a column of this number is there and is generated.
+/// Whether the column with this number exists and is generated.
 pub fn is_generated_at(columns: &[NewColumn<'_>], number: usize) -> bool
     ensures { result ≡ is_generated_in (map column_of columns.now) number }
 {

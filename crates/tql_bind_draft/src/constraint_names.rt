@@ -1,7 +1,7 @@
-//! The names of the constraints of a new table. A constraint without a written name gets the one that PostgreSQL would
-//! give it: `PAY_PKEY`, `PAY_A_B_KEY`, `PAY_A_FKEY`, `PAY_CHECK`, or `PAY_A_CHECK` where a CHECK reads that column
-//! alone, and a number at the end where the table has a constraint of that name already. Names are for messages: no
-//! view of a definition shows them.
+//! The names of the constraints of a new table. A constraint without a written name is named as PostgreSQL names it:
+//! `PAY_PKEY`, `PAY_A_B_KEY`, `PAY_A_FKEY`, `PAY_CHECK`, or `PAY_A_CHECK` if a CHECK reads that column alone. If the
+//! table already has a constraint of that name, a number is appended. Names are for messages: no view of a definition
+//! shows them.
 
 use crate::draft::NewList;
 use indexmap::IndexMap;
@@ -15,10 +15,10 @@ use tql_memory::Memory;
 use tql_syntax_tree::expression::Name;
 use tql_syntax_tree::statement::{Constraint, CreateTree, Element};
 
-/// Names, each with the last number that was put after it to make another.
+/// Used names, each with the last number that was appended to it to make another name.
 type Taken = IndexMap<String<Memory>, usize, BuildHasherDefault<FoldHasher>, Memory>;
 
-/// The table's name, and the names that its constraints have so far: at first the written ones, wherever they stand.
+/// The table's name, and the names that its constraints have so far. All written names are there from the start.
 pub struct ConstraintNames {
     table: String<Memory>,
     taken: Taken,
@@ -32,20 +32,20 @@ impl Drop for ConstraintNames {
     }
 }
 
-/// The name with a number after it.
+/// Returns the name with a number appended.
 fn numbered(memory: Memory, name: &str, number: usize) -> Result<String<Memory>, AllocError> {
     let mut text = String::from_str(memory, name)?;
     write!(text, "{number}")?;
     Ok(text)
 }
 
-/// Puts an underscore and a name after others.
+/// Appends an underscore and a name.
 fn push_part(name: &mut String<Memory>, part: &str) -> Result<(), AllocError> {
     name.push('_')?;
     name.push_str(part)
 }
 
-/// The table's name, the columns of the list, its period where it has one, and the ending.
+/// Returns a name of the table's name, the columns of the list, its period if it has one, and the ending.
 fn listed_name(
     memory: Memory,
     table: &str,
@@ -63,7 +63,7 @@ fn listed_name(
     Ok(name)
 }
 
-/// The table's name, the column where there is one, and the ending.
+/// Returns a name of the table's name, the column if there is one, and the ending.
 fn column_name(
     memory: Memory,
     table: &str,
@@ -79,7 +79,7 @@ fn column_name(
 }
 
 impl ConstraintNames {
-    /// Takes the names that the statement gives. The only error is a refused allocation.
+    /// Returns the names that the statement writes. The only error is a refused allocation.
     pub fn written(memory: Memory, create: &CreateTree<'_>) -> Result<ConstraintNames, AllocError> {
         let mut names = ConstraintNames {
             table: meant(memory, create.table)?,
@@ -92,7 +92,7 @@ impl ConstraintNames {
         Ok(names)
     }
 
-    /// Takes the name that is written for the element, if any.
+    /// Records the name that is written for the element, if any.
     fn take_written(&mut self, memory: Memory, element: &Element<'_>) -> Result<(), AllocError> {
         if let Element::Constraint(Some(name), _) = element {
             let name = meant(memory, *name)?;
@@ -101,7 +101,7 @@ impl ConstraintNames {
         Ok(())
     }
 
-    /// The number that was last put after this name.
+    /// Returns the number that was last appended to this name, or 0.
     fn last_number(&self, name: &str) -> usize {
         match self.taken.get(name) {
             Some(number) => *number,
@@ -109,7 +109,7 @@ impl ConstraintNames {
         }
     }
 
-    /// The first number, after the last one for this name, that makes it a name which is free.
+    /// Returns the first number, after the last one for this name, that makes an unused name.
     fn free_number(&self, memory: Memory, name: &str) -> Result<usize, AllocError> {
         let last = self.last_number(name);
         for number in last.saturating_add(1)..usize::MAX {
@@ -121,7 +121,7 @@ impl ConstraintNames {
         Ok(last)
     }
 
-    /// Takes this name with a number after it.
+    /// Records and returns this name with a number appended.
     fn take_numbered(
         &mut self,
         memory: Memory,
@@ -134,7 +134,7 @@ impl ConstraintNames {
         Ok(given)
     }
 
-    /// Takes this name, or where it is taken this name with a number after it.
+    /// Records and returns this name, with a number appended if it is already used.
     fn take(&mut self, memory: Memory, name: String<Memory>) -> Result<String<Memory>, AllocError> {
         if self.taken.contains_key(name.as_str()) {
             return self.take_numbered(memory, name);
@@ -143,7 +143,7 @@ impl ConstraintNames {
         Ok(name)
     }
 
-    /// Returns the name of a key: the written one, else one of its own. The only error is a refused allocation.
+    /// Returns the name of a key: the written one, else a generated one. The only error is a refused allocation.
     pub fn of_key(
         &mut self,
         memory: Memory,
@@ -162,7 +162,7 @@ impl ConstraintNames {
         self.take(memory, name)
     }
 
-    /// Returns the name of a reference: the written one, else one of its own. The only error is a refused allocation.
+    /// Returns the name of a reference: the written one, else a generated one. The only error is a refused allocation.
     pub fn of_reference(
         &mut self,
         memory: Memory,
@@ -176,7 +176,7 @@ impl ConstraintNames {
         self.take(memory, name)
     }
 
-    /// Returns the name of a check without a written one, by its number.
+    /// Returns the name of a check without a written name, by the check's number.
     fn of_unnamed_check(
         &mut self,
         memory: Memory,
@@ -189,7 +189,7 @@ impl ConstraintNames {
         self.take(memory, name)
     }
 
-    /// Returns the name of an element that is the check of this number; None where it is no check.
+    /// Returns the name of an element that is the check with this number. None if the element is no check.
     fn of_check(
         &mut self,
         memory: Memory,
@@ -209,7 +209,7 @@ impl ConstraintNames {
     }
 }
 
-/// The written name of an element that is a check, if any; None where it is no check.
+/// Returns the written name of an element that is a check, if any. None if the element is no check.
 fn check_name<'a>(element: &Element<'a>) -> Option<Option<Name<'a>>> {
     match element {
         Element::Constraint(written, constraint) if is_check(constraint) => Some(*written),
@@ -225,7 +225,7 @@ fn is_check(constraint: &Constraint<'_>) -> bool {
     }
 }
 
-/// Whether a check, by its number, reads a column.
+/// Whether a check, given by its number, reads a column.
 fn reads(checks: &Checks, check: usize, column: usize) -> bool {
     match checks.conditions.get(check) {
         Some(condition) => checks.terms.finds_in(Search::OneOf(&[column]), *condition),
@@ -233,7 +233,7 @@ fn reads(checks: &Checks, check: usize, column: usize) -> bool {
     }
 }
 
-/// The only column that a check, by its number, reads; none where it reads several, or none.
+/// Returns the only column that a check, given by its number, reads. None if it reads several, or none.
 fn only_column<'c>(columns: &'c [Column], checks: &Checks, check: usize) -> Option<&'c Column> {
     let mut only = None;
     for (number, column) in columns.iter().enumerate() {
@@ -247,8 +247,7 @@ fn only_column<'c>(columns: &'c [Column], checks: &Checks, check: usize) -> Opti
     only
 }
 
-/// Returns the names of the checks of a statement, which are bound, in its order. The only error is a refused
-/// allocation.
+/// Returns the names of the bound checks of a statement, in its order. The only error is a refused allocation.
 pub fn check_names(
     memory: Memory,
     create: &CreateTree<'_>,

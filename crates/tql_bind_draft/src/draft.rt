@@ -1,4 +1,4 @@
-//! The columns, periods, keys and references of a new table, under the names that are meant.
+//! The columns, periods, keys and references of a new table, with decoded names.
 ghost use Rattle.std.specs.Prelude.{◌≡◌, ◌++◌, ◌∷◌, [], Some, None, IfOk, OnOk, map, option_map};
 ghost use Rattle.tql_spec.specs.Creation.{columns_of, application_parts, system_parts, constraints_of};
 ghost use Rattle.tql_syntax_tree.specs.Expressions.{name_of};
@@ -19,7 +19,7 @@ use tql_syntax_tree::statement::{
     TypeName,
 };
 
-/// A column as it is written, under the name that is meant.
+/// A column as it is written, with its name decoded.
 #[derive(Drop)]
 pub struct NewColumn<'a> {
     pub name: Word,
@@ -28,7 +28,7 @@ pub struct NewColumn<'a> {
     pub generated: Option<Generated>,
 }
 
-/// An application period as it is written, under the names that are meant.
+/// An application period as it is written, with its names decoded.
 #[derive(Drop)]
 pub struct NewApplication {
     pub name: Word,
@@ -36,21 +36,21 @@ pub struct NewApplication {
     pub end: Word,
 }
 
-/// A system period as it is written, under the names that are meant.
+/// A system period as it is written, with its names decoded.
 #[derive(Drop)]
 pub struct NewSystem {
     pub start: Word,
     pub end: Word,
 }
 
-/// A list of columns as it is written, and its period, under the names that are meant.
+/// A list of columns as it is written, and its period, with their names decoded.
 #[derive(Drop)]
 pub struct NewList {
     pub columns: Vec<Word, Memory>,
     pub period: Option<Word>,
 }
 
-/// A key as it is written, under the names that are meant.
+/// A key as it is written, with its names decoded. Its own name is generated if none is written.
 #[derive(Drop)]
 pub struct NewKey {
     pub name: String<Memory>,
@@ -58,8 +58,8 @@ pub struct NewKey {
     pub list: NewList,
 }
 
-/// A reference as it is written, under the names that are meant: its columns, the table that it is to, and the columns
-/// there.
+/// A reference as it is written, with its names decoded: its columns, the table that it references, and the columns
+/// there. Its own name is generated if none is written.
 #[derive(Drop)]
 pub struct NewReference {
     pub name: String<Memory>,
@@ -78,7 +78,7 @@ pub struct Draft<'a> {
     pub references: Vec<NewReference, Memory>,
 }
 
-/// The column under the name that is meant.
+/// Decodes the name of a column.
 fn new_column<'a>(memory: Memory, column: ColumnTree<'a>) -> Result<NewColumn<'a>, AllocError>
     ensures { IfOk result (λ c. column_of c ≡ tree.column_of column.entry) }
 {
@@ -90,7 +90,7 @@ fn new_column<'a>(memory: Memory, column: ColumnTree<'a>) -> Result<NewColumn<'a
     })
 }
 
-/// The application period of this name under the names that are meant.
+/// Decodes the names of an application period.
 fn new_application(
     memory: Memory,
     name: Name<'_>,
@@ -110,7 +110,7 @@ fn new_application(
     })
 }
 
-/// The system period under the names that are meant.
+/// Decodes the names of a system period.
 fn new_system(memory: Memory, period: PeriodTree<'_>) -> Result<NewSystem, AllocError>
     ensures { IfOk result
         (λ p. system_part p ≡ record {
@@ -125,7 +125,7 @@ fn new_system(memory: Memory, period: PeriodTree<'_>) -> Result<NewSystem, Alloc
     })
 }
 
-/// The names that are meant.
+/// Decodes names.
 fn meant_names(
     memory: Memory,
     first: Name<'_>,
@@ -141,7 +141,7 @@ fn meant_names(
     Ok(texts)
 }
 
-/// The name that is meant, where there is one.
+/// Decodes a name, if there is one.
 fn meant_name(memory: Memory, name: Option<Name<'_>>) -> Result<Option<Word>, AllocError>
     ensures { IfOk result (λ text. option_map word_of text ≡ option_map name_of name.entry) }
 {
@@ -151,7 +151,7 @@ fn meant_name(memory: Memory, name: Option<Name<'_>>) -> Result<Option<Word>, Al
     }
 }
 
-/// The list of these columns, with its period.
+/// Returns the list of these columns, with its period.
 fn new_list(
     memory: Memory,
     first: Name<'_>,
@@ -170,7 +170,7 @@ fn new_list(
     })
 }
 
-/// The key under the names that are meant.
+/// Decodes the names of a key, and names the key.
 fn new_key(
     memory: Memory,
     names: &mut ConstraintNames,
@@ -187,7 +187,7 @@ fn new_key(
     })
 }
 
-/// The reference under the names that are meant.
+/// Decodes the names of a reference, and names the reference.
 fn new_reference(
     memory: Memory,
     names: &mut ConstraintNames,
@@ -208,7 +208,7 @@ fn new_reference(
 }
 
 impl<'a> Draft<'a> {
-    /// Adds the period, where it has a name as an application period.
+    /// Adds the period: an application period if it has a name, else a system period.
     fn add_period(&mut self, memory: Memory, period: PeriodTree<'_>) -> Result<(), AllocError>
         ensures columns { OnOk result (columns_in self.new ≡ columns_in self.old) }
         ensures applications { OnOk result
@@ -228,7 +228,7 @@ impl<'a> Draft<'a> {
         Ok(())
     }
 
-    /// Adds the constraint of this written name, where it is a key or a reference.
+    /// Adds the constraint, if it is a key or a reference.
     fn add_constraint(
         &mut self,
         memory: Memory,
@@ -256,7 +256,7 @@ impl<'a> Draft<'a> {
         Ok(())
     }
 
-    /// Adds the element, where it is no check.
+    /// Adds the element, unless it is a check.
     fn add(
         &mut self,
         memory: Memory,
@@ -288,7 +288,7 @@ impl<'a> Draft<'a> {
     }
 }
 
-/// The columns, periods, keys and references of the statement. The only error is a refused growth.
+/// Returns the columns, periods, keys and references of the statement. The only error is a refused allocation.
 #[tactic(auto, using(crate::proofs::Drafts::columns_more, crate::proofs::Drafts::applications_more, crate::proofs::Drafts::systems_more, crate::proofs::Drafts::keys_more, crate::proofs::Drafts::references_more))]
 pub fn draft_of<'a>(memory: Memory, create: &CreateTree<'a>) -> Result<Draft<'a>, AllocError>
     ensures columns { IfOk result (λ d. columns_in d ≡ columns_of (elements_in create.now)) }
@@ -314,7 +314,7 @@ pub fn draft_of<'a>(memory: Memory, create: &CreateTree<'a>) -> Result<Draft<'a>
 }
 
 impl NewList {
-    /// Returns the byte offset of its first column.
+    /// Returns the byte offset of the list's first column.
     pub fn start(&self) -> u32 {
         self.column_start(0)
     }

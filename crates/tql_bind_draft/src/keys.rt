@@ -28,14 +28,14 @@ pub fn is_in_primary(keys: &[NewKey], name: &str) -> bool
     false
 }
 
-/// How many keys are primary.
+/// Returns the number of primary keys.
 pub fn primary_count(keys: &[NewKey]) -> usize
     ensures { result ≡ primary_count_in (map key_part keys.now) }
 {
     keys.iter().filter(|key| key.is_primary).count()
 }
 
-/// A key. Faults: those of its columns. The only error is a refused growth.
+/// Binds a key. Faults: those of its columns. The only error is a refused allocation.
 #[tactic(auto, using(tql_bind_expr::proofs::Gathering::gathering))]
 fn bound_key(
     memory: Memory,
@@ -56,7 +56,7 @@ fn bound_key(
     })
 }
 
-/// The keys, in the order of the statement. Faults: those of each. The only error is a refused growth.
+/// Binds the keys, in the order of the statement. Faults: those of each. The only error is a refused allocation.
 pub fn bound_keys(
     memory: Memory,
     draft: &Draft<'_>,

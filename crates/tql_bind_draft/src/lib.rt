@@ -1,4 +1,4 @@
-//! What a CREATE TABLE writes: its columns, names, periods, lists of columns and keys, by the numbers of its columns.
+//! The parts of a CREATE TABLE: its columns, names, periods, lists of columns and keys, by the numbers of its columns.
 //! Every fault is collected, and the first in the order of report is kept.
 #![tactic(auto)]
 

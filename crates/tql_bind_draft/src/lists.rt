@@ -1,4 +1,4 @@
-//! The lists of columns of keys and references, by the numbers of their columns.
+//! The column lists of keys and references, by the numbers of their columns.
 ghost use Rattle.std.specs.Prelude.{◌≡◌, ◌||◌, IfOk, Some, map, option_map};
 ghost use Rattle.std.specs.List.{list_any};
 ghost use Rattle.tql_spec.specs.Creation as spec;
@@ -25,7 +25,7 @@ use tql_catalog::definition::Application;
 use tql_memory::Memory;
 use tql_value::refusal::Refusal;
 
-/// The numbers of the columns of these names. A fault for each that is no column's.
+/// Returns the numbers of the columns of these names. Adds a fault for each name that no column has.
 fn each_number(
     memory: Memory,
     columns: &[NewColumn<'_>],
@@ -43,9 +43,9 @@ fn each_number(
     Ok(numbers)
 }
 
-/// Adds a fault if a name is repeated. If a fault is known that is reported first or is of the same kind, such as an
-/// unknown column, the names are not compared. Otherwise all are names of a table's at most 64 columns, so a repeat is
-/// found among any 65 of them.
+/// Adds a fault if a name is repeated. The names are not compared if a known fault is of the same kind, such as an
+/// unknown column, or is reported first. Otherwise all are names of a table's at most 64 columns, so any 65 of them
+/// contain a repeat.
 #[tactic(auto, using(crate::proofs::Gathered::no_more))]
 pub fn refuse_repeated(names: &[Word], faults: &mut Faults)
     ensures { Gathers (refuse_if (spec.repeats (map word_of names.now)) NameUnknownAmbiguousOrRepeated)
@@ -66,7 +66,7 @@ pub fn refuse_repeated(names: &[Word], faults: &mut Faults)
     );
 }
 
-/// The numbers of the columns of these names. A fault where one is no column's, and where one stands twice.
+/// Returns the numbers of the columns of these names. Adds a fault if no column has a name, or a name is repeated.
 #[tactic(auto, using(tql_bind_expr::proofs::Gathering::gathering))]
 fn column_numbers(
     memory: Memory,
@@ -83,7 +83,7 @@ fn column_numbers(
     Ok(numbers)
 }
 
-/// A fault where the list names a period that is no application period of the table.
+/// Adds a fault if the list names a period that is not an application period of the table.
 #[tactic(auto, using(tql_bind_expr::proofs::Gathering::gathering, crate::proofs::ListLaws::one_sought))]
 fn seek_period(draft: &Draft<'_>, list: &NewList, faults: &mut Faults)
     ensures { faults.new ≡ after faults.old
@@ -99,7 +99,7 @@ fn seek_period(draft: &Draft<'_>, list: &NewList, faults: &mut Faults)
     }
 }
 
-/// Whether one of the columns of these numbers is generated.
+/// Whether one of these columns is generated.
 fn has_generated(columns: &[NewColumn<'_>], numbers: &[usize]) -> bool
     ensures { result ≡ list_any (is_generated_in (map column_of columns.now)) numbers.now }
 {
@@ -111,7 +111,7 @@ fn has_generated(columns: &[NewColumn<'_>], numbers: &[usize]) -> bool
     false
 }
 
-/// The application period that the list names.
+/// Returns the application period that the list names.
 pub fn period_called<'a>(applications: &'a [Application], list: &NewList) -> Option<&'a Application>
     ensures { option_map (λ a. application_of a.now) result
         ≡ spec.period_called (list_part list.now).period (map application_of applications.now) }
@@ -122,7 +122,7 @@ pub fn period_called<'a>(applications: &'a [Application], list: &NewList) -> Opt
     }
 }
 
-/// The first application period of this name.
+/// Returns the first application period of this name.
 fn first_called<'a>(applications: &'a [Application], name: &str) -> Option<&'a Application>
     ensures { option_map (λ a. application_of a.now) result
         ≡ spec.period_called (Some name.now) (map application_of applications.now) }
@@ -135,7 +135,7 @@ fn first_called<'a>(applications: &'a [Application], name: &str) -> Option<&'a A
     None
 }
 
-/// Whether the column of this number is one of the application period.
+/// Whether the column with this number is a column of the application period.
 fn is_of_period(application: Option<&Application>, number: usize) -> bool
     ensures { result ≡ has_number number
         (period_columns (option_map (λ a. application_of a.now) application.entry)) }
@@ -146,7 +146,7 @@ fn is_of_period(application: Option<&Application>, number: usize) -> bool
     }
 }
 
-/// Whether one of these columns is one of the application period.
+/// Whether one of these columns is a column of the application period.
 fn shares_period(application: Option<&Application>, numbers: &[usize]) -> bool
     ensures { result ≡ shares_number numbers.now
         (period_columns (option_map (λ a. application_of a.now) application.entry)) }
@@ -159,7 +159,7 @@ fn shares_period(application: Option<&Application>, numbers: &[usize]) -> bool
     false
 }
 
-/// Whether one of these columns is generated, or one of the application period that the list names.
+/// Whether one of these columns is generated, or is a column of the application period that the list names.
 fn is_wrong_list(
     draft: &Draft<'_>,
     applications: &[Application],
@@ -174,7 +174,7 @@ fn is_wrong_list(
         || shares_period(period_called(applications, list), numbers)
 }
 
-/// Returns what the fault of a list with a generated column, or else with one of its period, is about.
+/// Returns the cause and place of the fault that a list has a generated column, or else one of its period.
 fn wrong_list(draft: &Draft<'_>, list: &NewList, numbers: &[usize]) -> About {
     for (place, number) in numbers.iter().enumerate() {
         if is_generated_at(&draft.columns, *number) {
@@ -184,8 +184,8 @@ fn wrong_list(draft: &Draft<'_>, list: &NewList, numbers: &[usize]) -> About {
     About::at(Cause::PeriodColumnInList, list.start())
 }
 
-/// The numbers of the columns of a list. A fault where one is no column's, where one stands twice, where its period is
-/// unknown, and where one is generated or of that period. The only error is a refused growth.
+/// Returns the numbers of the columns of a list. Adds a fault if a column is unknown or repeated, the list's period is
+/// unknown, or a column is generated or one of that period. The only error is a refused allocation.
 #[tactic(auto, using(tql_bind_expr::proofs::Gathering::gathering))]
 pub fn listed_columns(
     memory: Memory,

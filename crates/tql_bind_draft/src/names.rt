@@ -23,7 +23,7 @@ pub fn has_period(periods: &[NewApplication], name: &str) -> bool
     false
 }
 
-/// The first name that two application periods have.
+/// Returns the first name that two application periods have.
 fn repeated_period(periods: &[NewApplication]) -> Option<&Word>
     ensures { is_some result ≡ spec.repeats (names_of_periods (map application_part periods.now)) }
 {
@@ -45,7 +45,7 @@ fn is_taken(columns: &[NewColumn<'_>], periods: &[NewApplication], name: &str) -
     has_column(columns, name) || has_period(periods, name)
 }
 
-/// The first name that stands twice among those of the columns and of the application periods.
+/// Returns the first name that occurs twice among the columns and application periods.
 pub fn repeated_name<'t>(draft: &'t Draft<'_>) -> Option<&'t Word>
     ensures { is_some result
         ≡ spec.repeats (names_in (columns_in draft.now) ++ names_of_periods (applications_in draft.now)) }
@@ -60,7 +60,7 @@ pub fn repeated_name<'t>(draft: &'t Draft<'_>) -> Option<&'t Word>
     repeated_period(&draft.applications)
 }
 
-/// Whether a column of this name is one of an application period.
+/// Whether the column of this name is a column of an application period.
 fn is_of_period(periods: &[NewApplication], name: &str) -> bool
     ensures { result ≡ spec.has_name name.now (flat_map part_names (map application_part periods.now)) }
 {
@@ -72,7 +72,7 @@ fn is_of_period(periods: &[NewApplication], name: &str) -> bool
     false
 }
 
-/// Whether a column of this name is one of an application period or of a primary key.
+/// Whether the column of this name is a column of an application period or of a primary key.
 #[tactic(auto, using(crate::proofs::ListLaws::implied_by))]
 pub fn is_implied(periods: &[NewApplication], keys: &[NewKey], name: &str) -> bool
     ensures { result ≡ spec.has_name name.now

@@ -22,7 +22,7 @@ use tql_memory::Memory;
 use tql_value::refusal::Refusal;
 use tql_value::value::Kind;
 
-/// The number of the column of this name. A fault where there is none.
+/// Returns the number of the column of this name. Adds a fault if there is none.
 pub fn column_number(columns: &[NewColumn<'_>], name: &Word, faults: &mut Faults) -> usize
     ensures { Gathers (spec.column_number (names_in (map column_of columns.now)) (word_of name.now))
         faults.old faults.new result }
@@ -33,7 +33,7 @@ pub fn column_number(columns: &[NewColumn<'_>], name: &Word, faults: &mut Faults
     )
 }
 
-/// Whether the columns of these numbers are not both of type DATE and not both of type TIMESTAMP.
+/// Whether the columns are neither both of type DATE nor both of type TIMESTAMP.
 fn are_no_ends(columns: &[NewColumn<'_>], start: usize, end: usize) -> bool
     ensures { result ≡ not (spec.are_ends (kind_in (map column_of columns.now) start)
         (kind_in (map column_of columns.now) end)) }
@@ -41,7 +41,7 @@ fn are_no_ends(columns: &[NewColumn<'_>], start: usize, end: usize) -> bool
     !are_ends(kind_at(columns, start), kind_at(columns, end))
 }
 
-/// Returns what the fault of columns that cannot be the ends of one period is about.
+/// Returns the cause and place of the fault that two columns cannot be the ends of one period.
 fn no_ends(
     cause: Cause,
     columns: &[NewColumn<'_>],
@@ -70,8 +70,8 @@ fn is_wrong_application(
         || is_generated_at(columns, end)
 }
 
-/// An application period. A fault where a column is unknown, where the two are not both of type DATE and not both of
-/// type TIMESTAMP, and where one column is named twice or is generated. The only error is a refused growth.
+/// Binds an application period. Adds a fault if a column is unknown or generated, one column is named twice, or the two
+/// are neither both of type DATE nor both of type TIMESTAMP. The only error is a refused allocation.
 fn application_period(
     memory: Memory,
     columns: &[NewColumn<'_>],
@@ -108,7 +108,7 @@ fn application_period(
     })
 }
 
-/// The application periods. Faults: those of each.
+/// Binds the application periods. Faults: those of each.
 pub fn application_periods(
     memory: Memory,
     columns: &[NewColumn<'_>],
@@ -126,7 +126,7 @@ pub fn application_periods(
     Ok(applications)
 }
 
-/// The first of the application periods, where there is one.
+/// Returns the first of the application periods, if there is one.
 pub fn first_application(
     memory: Memory,
     applications: &[Application],
@@ -143,14 +143,14 @@ pub fn first_application(
     }
 }
 
-/// Whether the column of this number is a TIMESTAMP.
+/// Whether the column with this number is of type TIMESTAMP.
 fn is_moment_at(columns: &[NewColumn<'_>], number: usize) -> bool
     ensures { result ≡ same_kind (kind_in (map column_of columns.now) number) Moments }
 {
     matches!(kind_at(columns, number), Kind::Moment)
 }
 
-/// Whether one of these columns is no TIMESTAMP.
+/// Whether one of these columns is not of type TIMESTAMP.
 fn has_no_moment(columns: &[NewColumn<'_>], start: usize, end: usize) -> bool
     ensures { result ≡ (not (same_kind (kind_in (map column_of columns.now) start) Moments)
         || not (same_kind (kind_in (map column_of columns.now) end) Moments)) }
@@ -158,7 +158,7 @@ fn has_no_moment(columns: &[NewColumn<'_>], start: usize, end: usize) -> bool
     !is_moment_at(columns, start) || !is_moment_at(columns, end)
 }
 
-/// Whether the columns of the period are not a ROW START and a ROW END in that order.
+/// Whether the period does not name a ROW START column and a ROW END column, in that order.
 fn is_wrong_system(columns: &[NewColumn<'_>], period: &NewSystem, start: usize, end: usize) -> bool
     ensures { result ≡ (same_text (system_part period.now).start (system_part period.now).end
         || not (has_number start (starts_in (map column_of columns.now)))
@@ -169,8 +169,8 @@ fn is_wrong_system(columns: &[NewColumn<'_>], period: &NewSystem, start: usize, 
         || !is_end_at(columns, end)
 }
 
-/// A system period. A fault where a column is unknown, where one is no TIMESTAMP, and where they are not the ROW
-/// START and the ROW END in that order.
+/// Binds a system period. Adds a fault if a column is unknown, one is not of type TIMESTAMP, or they are not ROW START
+/// and ROW END in that order.
 fn system_period(columns: &[NewColumn<'_>], period: &NewSystem, faults: &mut Faults) -> System
     ensures { Gathers (system_in (map column_of columns.now) (system_part period.now))
         faults.old faults.new (system_of result) }
@@ -197,7 +197,7 @@ fn system_period(columns: &[NewColumn<'_>], period: &NewSystem, faults: &mut Fau
     System { start, end }
 }
 
-/// The system periods. Faults: those of each. The only error is a refused growth.
+/// Binds the system periods. Faults: those of each. The only error is a refused allocation.
 pub fn system_periods(
     memory: Memory,
     columns: &[NewColumn<'_>],
@@ -215,7 +215,7 @@ pub fn system_periods(
     Ok(systems)
 }
 
-/// The first of the system periods, where there is one.
+/// Returns the first of the system periods, if there is one.
 pub fn first_system(systems: &[System]) -> Option<System>
     ensures { option_map system_of result ≡ first_of (map system_of systems.now) }
 {

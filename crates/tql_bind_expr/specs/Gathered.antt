@@ -1,10 +1,10 @@
--- Faults that are collected while binding goes on.
+-- Faults that are collected during binding.
 use Rattle.std.specs.Prelude.{◌≡◌, List, ◌++◌, Option}
 use Rattle.tql_spec.specs.Words.{listed}
 use Rattle.tql_spec.specs.Refusal.{Refusal, first}
 use Rattle.tql_spec.specs.Names.{Checked}
 
--- the first of the fault so far and of these
+-- the first of the fault so far and these faults
 unfoldable pub after : Option Refusal → List Refusal → Option Refusal
 after least faults = first (listed least ++ faults)
 

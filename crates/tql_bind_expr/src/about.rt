@@ -119,7 +119,7 @@ pub enum Cause {
     PortionNotRising,
     /// The table whose number is `count` references the table at `at`.
     TableReferenced,
-    /// 256 readers are open besides the one at `at`.
+    /// 256 readers are already open, and the one at `at` would be another.
     TooManyReaders,
     /// No reader of the name at `at` is open.
     NoReader,
@@ -127,13 +127,12 @@ pub enum Cause {
     ReaderThere,
     /// The reader at `at` reads a table that is not system-versioned.
     PlainRead,
-    /// A cause and its details: byte offsets in the text of the statement, numbers, and the types of two operands.
-    /// Offset 0 means an unknown place, since the first word of a statement is never at fault.
+    /// The point in time is before the horizon.
     BeforeHorizon,
 }
 
-/// A cause and what it is about: byte offsets in the text of the statement, of which 0 stands for a place that is not
-/// known, since the first word of a statement is never at fault; numbers; and the types of two operands.
+/// A cause and its details: byte offsets in the text of the statement, numbers, and the types of two operands. Offset 0
+/// means an unknown place, since the first word of a statement is never at fault.
 #[derive(Clone, Copy, Debug)]
 pub struct About {
     pub cause: Cause,
@@ -155,7 +154,7 @@ fn narrowed(number: usize) -> u32 {
 }
 
 impl About {
-    /// Returns a fault of which nothing is known.
+    /// Returns a fault whose cause and place are unknown.
     pub fn unknown() -> About {
         About::at(Cause::Unknown, 0)
     }
@@ -174,12 +173,12 @@ impl About {
         }
     }
 
-    /// Returns the same with a second place.
+    /// Adds a second place.
     pub fn and(self, to: u32) -> About {
         About { to, ..self }
     }
 
-    /// Returns the same with two types.
+    /// Adds two types.
     pub fn kinds(self, kind: Option<Kind>, other: Option<Kind>) -> About {
         About {
             kind,
@@ -188,7 +187,7 @@ impl About {
         }
     }
 
-    /// Returns the same with two numbers.
+    /// Adds two numbers.
     pub fn counts(self, count: usize, wanted: usize) -> About {
         About {
             count: narrowed(count),

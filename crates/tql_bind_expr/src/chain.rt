@@ -44,7 +44,7 @@ impl Chain {
         }
     }
 
-    /// Returns which of the two operands is not a number: this one, or else the right one.
+    /// Returns the cause and place of the fault that an operand is not a number: this one, or else the right one.
     fn no_number(&self, right: Typed) -> About {
         if is_other_kind(Kind::Int, self.kind) {
             About::at(Cause::NoNumber, self.start).kinds(self.kind, None)

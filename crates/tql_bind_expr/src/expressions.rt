@@ -28,7 +28,7 @@ use tql_syntax_tree::expression::{Expr, Function, Primary, Sign, Signed, Term};
 use tql_value::refusal::Refusal;
 use tql_value::value::Kind;
 
-/// Returns what the fault of an operand that is not a number is about.
+/// Returns the cause and place of the fault that an operand is not a number.
 fn no_number(operand: Typed) -> About {
     About::at(Cause::NoNumber, operand.start).kinds(operand.kind, None)
 }

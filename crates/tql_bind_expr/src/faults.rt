@@ -9,8 +9,8 @@ use crate::about::{About, Cause};
 use std::marker::Model;
 use tql_value::refusal::Refusal;
 
-/// The first fault so far, what it is about, and the byte offset of the aggregate that was bound last. Contracts see
-/// only which refusal it is.
+/// The first fault so far, its cause and place, and the byte offset of the aggregate that was bound last. Contracts see
+/// only the refusal.
 #[derive(Drop)]
 pub struct Faults {
     least: Option<Refusal>,
@@ -51,7 +51,7 @@ impl Faults {
         }
     }
 
-    /// Returns what the first fault is about, after this one is added.
+    /// Returns the cause and place of the first fault after this one is added.
     fn first_about(&self, refusal: Refusal, about: About) -> About {
         match self.least {
             Some(least) if least.place() <= refusal.place() => self.about,
@@ -59,7 +59,7 @@ impl Faults {
         }
     }
 
-    /// Adds a fault and what it is about, if it is present.
+    /// Adds a fault with its cause and place, if it is present.
     #[tactic(auto, using(crate::proofs::Gathering::gathering))]
     pub fn refuse_if(&mut self, is_present: bool, refusal: Refusal, about: About)
         ensures { Gathers (refuse_if is_present (refusal_of refusal)) self.old self.new tt }
@@ -77,12 +77,12 @@ impl Faults {
         self.aggregate = at;
     }
 
-    /// Returns what the fault of a forbidden aggregate is about: the aggregate that was bound last.
+    /// Returns the cause and place of a forbidden aggregate: the one that was bound last.
     pub fn of_aggregate(&self) -> About {
         About::at(Cause::AggregateHere, self.aggregate)
     }
 
-    /// Returns what the first fault is about.
+    /// Returns the cause and place of the first fault.
     pub fn about(&self) -> About {
         self.about
     }

@@ -167,7 +167,7 @@ fn first_number(thing: Thing<'_>) -> usize {
     }
 }
 
-/// Returns what the fault of a name that does not mean exactly one column is about.
+/// Returns the cause and place of the fault that a name does not mean exactly one column.
 pub fn no_column(scope: &[Known<'_>], start: u32, things: &[Thing<'_>]) -> About {
     match things {
         [] => About::at(Cause::NoColumn, start),

@@ -1,4 +1,4 @@
-//! Names in a list: whether one is there, and whether one is repeated.
+//! Names in a list: tests for a given name and for repeated names.
 ghost use Rattle.std.specs.Prelude.{◌≡◌, ℕ, List, is_some, map};
 ghost use Rattle.tql_spec.specs.Creation as creation;
 
@@ -71,7 +71,7 @@ pub fn repeated<T: HasName>(items: &[T]) -> Option<&T>
     None
 }
 
-/// Returns what the fault of a repeated name is about.
+/// Returns the cause and place of the fault that a name is repeated.
 pub fn about_repeated<T: HasName>(repeated: Option<&T>) -> About {
     match repeated {
         Some(item) => About::at(Cause::Repeated, item.start()),

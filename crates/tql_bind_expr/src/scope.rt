@@ -1,4 +1,4 @@
-//! Scopes, in which names are looked up, and what names are bound to.
+//! Scopes, in which names are looked up, and the things that a name can mean.
 ghost use Rattle.std.specs.Prelude.{◌<◌, ◌+◌, ◌^◌, All, length};
 ghost use Rattle.std.specs.Option.{ForSome};
 ghost use Rattle.tql_bind_expr.specs.Within.{HasEnds, HasSystem};

@@ -1,4 +1,4 @@
-//! The message of a statement that is refused where its names are bound.
+//! The message of a statement that is refused during name binding.
 #![tactic(auto)]
 
 mod distance;

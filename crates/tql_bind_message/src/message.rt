@@ -1,4 +1,4 @@
-//! The message of what a fault is about, with the words of the statement in it.
+//! Builds the message of a fault, which quotes the words of the statement.
 use crate::names::push_key;
 use crate::nearest::{Nearest, Part, nearest_part, nearest_table};
 use crate::piece::{has_word, is_quoted_name, last_name, meant, piece};
@@ -13,7 +13,7 @@ use tql_detail::shown::{Words, push_shown};
 use tql_memory::Memory;
 use tql_value::value::Kind;
 
-/// The most words in braces of a wording.
+/// The maximum number of parts in braces in a wording.
 const MOST_PARTS: usize = 8;
 
 /// Returns a type as it is written.
@@ -56,7 +56,7 @@ fn push_count(words: &mut Words, number: u32, thing: &str) -> Result<(), AllocEr
     write!(words, "{number} {thing}{plural}")
 }
 
-/// Adds what a word in braces represents that is a number or about a table.
+/// Adds the value of a part in braces that is a number or describes a table.
 fn push_number(
     words: &mut Words,
     part: &str,
@@ -77,7 +77,7 @@ fn push_number(
     }
 }
 
-/// Adds what a word in braces represents.
+/// Adds the value of a part in braces.
 fn push_part(
     words: &mut Words,
     part: &str,
@@ -123,7 +123,7 @@ fn is_text(text: &str, offset: u32) -> bool {
     piece(text, offset).starts_with('\'')
 }
 
-/// Returns how to write the literal of a date or a timestamp, where that of a text is in its place.
+/// Returns how to write the literal of a date or a timestamp, if a text literal is used in its place.
 fn literal_hint(text: &str, about: About) -> &'static str {
     let is_text = match about.cause {
         Cause::KindsDiffer => is_text(text, about.at) || is_text(text, about.to),
@@ -152,7 +152,7 @@ fn is_create(text: &str) -> bool {
     }
 }
 
-/// Returns the name that was probably meant by the written one, which is not there.
+/// Returns the name that was probably meant by a written name that does not exist.
 fn nearest_name<'a>(
     memory: Memory,
     written: &str,
@@ -183,8 +183,8 @@ fn push_name(words: &mut Words, name: &str) -> Result<(), AllocError> {
     words.push_str("\"")
 }
 
-/// Adds a question for the name that was probably meant by one that is not there, if there is a similar one. A column
-/// in double quotes may also be meant as a text.
+/// Adds a question for the name that was probably meant by one that does not exist, if there is a similar one. A column
+/// in double quotes may also have been meant as a text.
 fn push_name_hint(
     memory: Memory,
     words: &mut Words,
@@ -206,7 +206,7 @@ fn push_name_hint(
     }
 }
 
-/// Returns what to write in place of what is at fault, or no words: by this part of the wording, and by the tables.
+/// Returns what to write instead, or no words: by this part of the wording, and by the tables.
 fn hint_for(
     memory: Memory,
     wording: &str,
@@ -225,8 +225,8 @@ fn hint_for(
     Ok(hint)
 }
 
-/// Returns what a fault is about more exactly, as the words of the statement show it: a column is also ambiguous where
-/// two table references have one name.
+/// Returns a more exact cause, as the words of the statement show it: a column is also ambiguous if two table
+/// references have one name.
 fn sharpened(text: &str, about: About) -> About {
     let first = piece(text, about.to);
     if about.cause == Cause::Ambiguous && first.eq_ignore_ascii_case(piece(text, about.also)) {
@@ -235,8 +235,8 @@ fn sharpened(text: &str, about: About) -> About {
     about
 }
 
-/// Returns the table that is named before a column that is not there, if no table reference of the statement has that
-/// name: then the name is in the statement only before a dot.
+/// Returns the table that qualifies an unknown column, if no table reference of the statement has that name. Then the
+/// name occurs in the statement only before a dot.
 fn unknown_reference(text: &str, about: About) -> Option<&str> {
     if about.cause != Cause::NoColumn {
         return None;
@@ -283,9 +283,9 @@ fn place_at(text: &str, offset: u32) -> Option<Place> {
     }
 }
 
-/// Returns the detail of a statement whose first fault is about this: what is wrong, what to write, and the place of
-/// the fault, each where it is known. `text` is the text of the statement and `catalog` has the tables over which it
-/// was refused. Returns none where the cause is not known.
+/// Returns the detail of a statement with this first fault: what is wrong, what to write, and the place of the fault,
+/// as far as they are known. `text` is the text of the statement, and `catalog` has the tables over which it was
+/// refused. None if the cause is not known.
 ///
 /// # Errors
 ///

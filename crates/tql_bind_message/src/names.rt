@@ -1,10 +1,10 @@
-//! The names of columns and keys of a table, as they are shown.
+//! Formatting of the column names and keys of a table.
 use std::alloc::AllocError;
 use tql_catalog::constraint::Key;
 use tql_catalog::table_def::TableDef;
 use tql_detail::shown::{Words, push_shown};
 
-/// Adds the name of a column, by its number.
+/// Adds the name of the column with this number.
 pub fn push_column(words: &mut Words, table: &TableDef, number: usize) -> Result<(), AllocError> {
     match table.columns().get(number) {
         Some(column) => push_shown(words, column.name.as_str()),
@@ -12,7 +12,7 @@ pub fn push_column(words: &mut Words, table: &TableDef, number: usize) -> Result
     }
 }
 
-/// Adds the names of columns without the last parenthesis: `(A, B`.
+/// Adds the names of columns without the closing parenthesis: `(A, B`.
 fn push_open_names(
     words: &mut Words,
     table: &TableDef,

@@ -1,4 +1,4 @@
-//! The words of a statement at an offset of its text: a name, a literal, a call of an aggregate.
+//! The words at an offset of a statement's text: a name, a literal, or a call of an aggregate.
 use std::alloc::AllocError;
 use tql_detail::shown::Words;
 use tql_memory::Memory;
@@ -8,7 +8,7 @@ fn is_plain(byte: u8) -> bool {
     byte.is_ascii_alphanumeric() || byte == b'_' || byte == b'.' || 0x80 <= byte
 }
 
-/// Whether the words go on at this position outside of quotes and parentheses: with a name or a number, with the sign
+/// Whether the words continue at this position, outside of quotes and parentheses: with a name or a number, with a sign
 /// before it, or with the text of a literal as in `DATE '2024-01-01'`.
 fn goes_on(text: &[u8], place: usize, byte: u8) -> bool {
     let is_sign = place == 0 && (byte == b'-' || byte == b'+');
@@ -58,17 +58,17 @@ pub fn piece(text: &str, offset: u32) -> &str {
     rest.get(..length_of(rest.as_bytes())).unwrap_or(rest)
 }
 
-/// Whether a character is not one of a name.
+/// Whether a character cannot be part of a name.
 pub fn is_between_words(character: char) -> bool {
     !(character.is_ascii_alphanumeric() || character == '_')
 }
 
-/// Whether a character is not one of a name with its table before it.
+/// Whether a character cannot be part of a name with its table before it.
 fn is_apart(character: char) -> bool {
     is_between_words(character) && character != '.'
 }
 
-/// Whether a text has a word that is this name, without a dot before or after it. Letters are compared without case.
+/// Whether a text has this name as a word, without a dot before or after it. The case of letters does not matter.
 pub fn has_word(text: &str, name: &str) -> bool {
     for word in text.split(is_apart) {
         if word.eq_ignore_ascii_case(name) {
@@ -78,7 +78,7 @@ pub fn has_word(text: &str, name: &str) -> bool {
     false
 }
 
-/// Returns the last name of words as in `table.column`.
+/// Returns the part of a name after its qualifier, as in `table.column`.
 pub fn last_name(piece: &str) -> &str {
     match piece.split_once('.') {
         Some((_, name)) => name,
@@ -86,7 +86,7 @@ pub fn last_name(piece: &str) -> &str {
     }
 }
 
-/// Returns the name that is meant: a word in upper case, or what is in double quotes. The only error is a refused
+/// Returns the decoded name: a word in upper case, or the content of double quotes. The only error is a refused
 /// allocation.
 pub fn meant(memory: Memory, name: &str) -> Result<Words, AllocError> {
     match name.strip_prefix('"') {
@@ -95,7 +95,7 @@ pub fn meant(memory: Memory, name: &str) -> Result<Words, AllocError> {
     }
 }
 
-/// Whether a name has to be written in double quotes: it is no word in upper case. Reserved words are not known here.
+/// Whether a name must be written in double quotes: it is not a word in upper case. Reserved words are not known here.
 pub fn is_quoted_name(name: &str) -> bool {
     let mut is_first = true;
     for byte in name.bytes() {

@@ -1,4 +1,4 @@
--- A chain, one join behind another, and chains, one behind another.
+-- Chains of FROM: the joins of a chain, and the list of chains.
 use Rattle.std.specs.Prelude.{◌≡◌, refl, ℕ, suc, ◌+◌, ◌*◌, ◌<◌, ◌≤◌, List, [], ◌∷◌, ◌++◌, map, length, All, Option}
 use Rattle.std.specs.Prelude.{sum_by}
 use Rattle.std.proofs.Common.{sym, ap, ◌∙◌, subst, arith, drop, get_or, append_assoc}
@@ -27,28 +27,28 @@ use Rattle.tql_bind_query.proofs.FromLaws.{HasOn, joins_kept, joins_there}
 
 -- ---- lists
 
--- from an index on there is its element and what is behind it
+-- the rest of a list from an index: its element and the elements after it
 pub at_index : {X : Type 0} (xs : List X) (i : ℕ) (x : X) → i < length xs → x ≡ get_or xs i x
     → drop i xs ≡ x ∷ drop (i + 1) xs
 at_index xs i x h is = at_drop_more (λ l. l) xs i x h ∙ ap (λ y. y ∷ drop (i + 1) xs) (sym is)
 
--- what two lists show alike, they show alike at a place
+-- if two mapped lists are equal, their elements at an index are
 pub same_at : {X Y A : Type 0} (f : X → A) (g : Y → A) (xs : List X) (ys : List Y) (i : ℕ) (x : X) (y : Y)
     → map f xs ≡ map g ys → i < length xs → i < length ys → x ≡ get_or xs i x → y ≡ get_or ys i y → f x ≡ g y
 same_at f g xs ys i x y same here there is are =
     ap f is ∙ sym (get_or-map f xs i x (f x) here) ∙ ap (λ l. get_or l i (f x)) same
     ∙ get_or-map g ys i y (f x) there ∙ sym (ap g are)
 
--- one map behind another
+-- two maps in sequence
 map_twice : {X Y Z : Type 0} (h : Y → Z) (g : X → Y) (xs : List X) → map h (map g xs) ≡ map (λ x. h (g x)) xs
 map_twice h g [] = refl
 map_twice {X} {Y} {Z} h g (x ∷ xs) = ap {B = List Z} (λ l. h (g x) ∷ l) (map_twice h g xs)
 
--- what is pushed into an empty list is alone there
+-- an element that is pushed into an empty list is alone there
 pub alone : {X : Type 0} (none ys : List X) (y : X) → none ≡ [] → ys ≡ none ++ y ∷ [] → ys ≡ y ∷ []
 alone {X} none ys y empty is = is ∙ ap (λ (l : List X). l ++ y ∷ []) empty
 
--- the first is shown, and the others are left
+-- the first element, followed by the others
 pub first_shown : {X Y Z A : Type 0} (f : Y → A) (h : Z → A) (g : X → Z) (ys : List Y) (y : Y) (first : A) (xs : List X)
     → ys ≡ y ∷ [] → f y ≡ first → map f ys ++ map (λ x. h (g x)) xs ≡ first ∷ map h (map g xs)
 first_shown {X} {Y} {Z} {A} f h g ys y first xs one is =
@@ -56,7 +56,7 @@ first_shown {X} {Y} {Z} {A} f h g ys y first xs one is =
 
 -- ---- joins
 
--- what is left of a chain, behind these joins
+-- the rest of a chain, after these joins
 abbrev pub rest : List TableDef → Ref → Joined → List JoinTree → Checked Linked
 rest defs first so js =
     binding.joins defs so js >>= λ all. sound (record {
@@ -65,7 +65,7 @@ rest defs first so js =
       width = all.width;
     })
 
--- the next join, and those behind it
+-- the next join, and the joins after it
 rest_next : (defs : List TableDef) (first : Ref) (so : Joined) (j : JoinTree) (js : List JoinTree)
     → rest defs first so (j ∷ js) ≡ (binding.join defs so j >>= λ more. rest defs first more js)
 rest_next defs first so j js =
@@ -73,7 +73,7 @@ rest_next defs first so j js =
     let later = binding.joins defs here.value js in
     λ i. record { faults = append_assoc here.faults later.faults [] i; value = (rest defs first so (j ∷ js)).value }
 
--- the joins so far are there, and with those that are left they give the whole chain
+-- the joins so far are bound, and with the remaining ones they give the whole chain
 pub record ChainLeads (defs : List TableDef) (c : ChainTree) (start : Terms) (old : Option Refusal) (t : Terms)
     (l : code.Linked) (left : List JoinTree) (now : Option Refusal) (i : ℕ) : Type 0 where
   pub stays : Stays start t
@@ -138,7 +138,7 @@ chain_item {X} g defs c start old t u l m xs i x mid now within is so s a =
     chain_next defs c start old t u l m (g x) (map g (drop (i + 1) xs)) mid now i
     (subst (λ (left : List X). ChainLeads defs c start old t l (map g left) mid i) (at_index xs i x within is) so) s a
 
--- no join is left
+-- no join remains
 pub chain_done : {X : Type 0} (g : X
     → JoinTree) (defs : List TableDef) (c : ChainTree) (start : Terms) (old : Option Refusal) (t : Terms)
     (l : code.Linked) (xs : List X) (i : ℕ) (now : Option Refusal)
@@ -156,7 +156,7 @@ chain_done {X} g defs c start old t l xs i now all past within so =
       narrow = omega (arith, so.placed.narrow, so.counted, count, past, within);
     }
 
--- what lists show behind the first, they show alike at an index
+-- if a mapped list is a first element and another mapped list, the elements after the first are equal at an index
 pub behind_at : {X Y Z A : Type 0} (f : Y → A) (h : Z → A) (g : X
     → Z) (ns : List Y) (xs : List X) (first : A) (i : ℕ) (n : Y) (x : X)
     → map f ns ≡ first ∷ map h (map g xs) → i < length xs → n ≡ get_or ns (suc i) n → x ≡ get_or xs i x → f n ≡ h (g x)
@@ -167,7 +167,7 @@ behind_at {X} {Y} {Z} {A} f h g (m ∷ ns) xs first i n x same within is are =
     let there : i < length ns = omega (arith, sym (length-map ns f) ∙ ap length tails ∙ length-map xs shown, within) in
     same_at f shown ns xs i n x tails there within is are
 
--- they are one longer
+-- the first of these lists is one longer than the other
 pub behind_length : {X Y Z A : Type 0} (f : Y → A) (h : Z → A) (g : X → Z) (ns : List Y) (xs : List X) (first : A)
     → map f ns ≡ first ∷ map h (map g xs) → length ns ≡ suc (length xs)
 behind_length f h g ns xs first same =
@@ -175,7 +175,7 @@ behind_length f h g ns xs first same =
 
 -- ---- chains
 
--- chains stay what they are
+-- chains keep their meaning
 pub chains_kept : {t u : Terms} → Stays t u → (ls : List code.Linked) → All (HasJoins t) ls
     → map (linked_of u) ls ≡ map (linked_of t) ls
 chains_kept {t} {u} s [] h = refl
@@ -194,11 +194,11 @@ chains_there {t} {u} s (l ∷ ls) h =
     All-cons (HasJoins u) l ls (joins_there s l.chain.joins.items (All-head (HasJoins t) l ls h))
     (chains_there s ls (All-tail (HasJoins t) l ls h))
 
--- how many columns chains have
+-- the number of columns of chains
 abbrev pub widths : List code.Linked → ℕ
 widths ls = sum_by (λ (l : code.Linked). l.width) ls
 
--- the chains so far are there, and with those that are left they give all
+-- the chains so far are bound, and with the remaining ones they give all
 pub record ChainsLead (defs : List TableDef) (all : List ChainTree) (start : Terms) (old : Option Refusal)
     (t : Terms) (ls : List code.Linked) (left : List ChainTree) (now : Option Refusal) : Type 0 where
   pub stays : Stays start t
@@ -245,7 +245,7 @@ chains_next defs all start old t u ls ms c left mid now so s p =
           p.binds.bound);
     }
 
--- the chain that is next has at most 8 references
+-- the next chain has at most 8 references
 pub next_few : (defs : List TableDef) (all : List ChainTree) (start : Terms) (old : Option Refusal) (t : Terms)
     (ls : List code.Linked) (c : ChainTree) (left : List ChainTree) (now : Option Refusal)
     → ChainsLead defs all start old t ls (c ∷ left) now → chain_length c ≤ 8
@@ -272,7 +272,7 @@ item_few {X} g defs all start old t ls xs i x now within is so =
     next_few defs all start old t ls (g x) (map g (drop (i + 1) xs)) now
     (subst (λ (left : List X). ChainsLead defs all start old t ls (map g left) now) (at_index xs i x within is) so)
 
--- no chain is left
+-- no chain remains
 pub chains_done : {X : Type 0} (g : X
     → ChainTree) (defs : List TableDef) (all : List ChainTree) (start : Terms) (old : Option Refusal) (t : Terms)
     (ls : List code.Linked) (xs : List X) (i : ℕ) (now : Option Refusal)
@@ -283,6 +283,6 @@ chains_done {X} g defs all start old t ls xs i now past so =
     (subst (λ (left : List X). EachLeads (binding.chain defs) all old (map (linked_of t) ls) (map g left) now)
     (drop_all i xs past) so.leads)
 
--- one more is counted
+-- one more element adds 1 to the length
 pub one_counted : {X : Type 0} (xs ys : List X) (x : X) → ys ≡ xs ++ x ∷ [] → length ys ≡ length xs + 1
 one_counted xs ys x is = ap length is ∙ length-append xs (x ∷ [])

@@ -32,7 +32,7 @@ use Rattle.tql_bind_query.specs.declared.sources.BoundReference as code
 
 -- ---- a reference
 
--- how a reference to a table is known
+-- the scope entry of a reference to a table
 abbrev pub known_at : RefTree → ℕ → TableDef → names.Known
 known_at r offset d = record {
   name = known_as r r.alias;
@@ -74,7 +74,7 @@ join_parts defs so (InnerJoin r c) = refl
 join_parts defs so (LeftJoin r c) = refl
 join_parts defs so (CrossJoin r) = refl
 
--- it is bound where they are
+-- a join is bound if its parts are
 join_bound : (defs : List TableDef) (so : Joined) (j : JoinTree) (old mid new : Option Refusal) (s : BoundReference)
     (on : List Cond)
     → Gathers (binding.source defs so.width (reference_in j)) old mid s
@@ -89,11 +89,11 @@ join_bound defs so j old mid new s on source conjuncts =
     (bound (binding.source defs so.width (reference_in j)) rest old mid new s x source
     (bound (on_in (so.scope ++ s.known ∷ []) j) (last s) mid new new on x conjuncts (sound_here x new)))
 
--- the conjuncts of an ON are there
+-- the conjuncts of an ON are in the arena
 abbrev pub HasOn : Terms → Join → Type 0
 HasOn t j = All (HasCond t) j.on.items
 
--- joins stay what they are
+-- joins keep their meaning
 pub joins_kept : {t u : Terms} → Stays t u → (js : List Join) → All (HasOn t) js
     → map (join_of u) js ≡ map (join_of t) js
 joins_kept {t} {u} s [] h = refl
@@ -108,7 +108,7 @@ joins_there {t} {u} s (j ∷ js) h =
     All-cons (HasOn u) j js (conds_there s j.on.items (All-head (HasOn t) j js h))
     (joins_there s js (All-tail (HasOn t) j js h))
 
--- columns that stand within a width stand within a greater one
+-- columns within a width are within a greater one
 abbrev pub Within : ℕ → Known → Type 0
 Within n k = k.offset + length k.columns.now ≤ n
 
@@ -118,7 +118,7 @@ within_more m n more (k ∷ ks) h =
     let here = All-head (Within m) k ks h in
     All-cons (Within n) k ks (omega (arith, here, more)) (within_more m n more ks (All-tail (Within m) k ks h))
 
--- one more join is behind the others
+-- one more join is added after the others
 pub join_added : (defs : List TableDef) (j : JoinTree) (old mid new : Option Refusal) (t u : Terms) (l m : Linked)
     (s : code.BoundReference) (x : Join)
     → Gathers (binding.source defs l.width (reference_in j)) old mid (source_of s)
@@ -169,7 +169,7 @@ join_added defs j old mid new t u l m s x source on stands narrow stays there he
 
 -- ---- a chain
 
--- one reference alone stands within its width
+-- a single reference lies within its width
 pub begun_placed : (l : Linked) (s : code.BoundReference) → l.scope.items ≡ s.known ∷ []
     → s.known.offset + length s.known.columns.now ≡ 0 + s.reference.width
     → l.width ≡ s.reference.width → s.reference.width ≤ 64 → IsPlaced l

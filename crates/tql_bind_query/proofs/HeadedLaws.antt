@@ -1,4 +1,4 @@
--- Headings with their places: of sorted ones those of a name lie side by side, from the left.
+-- Headings with their indexes: sorted, the headings of a name are adjacent, from the left.
 use Rattle.std.proofs.Common.{◌≡◌, refl, sym, ap, subst, ◌∙◌, ℕ, zero, suc, ◌+◌, ◌-◌, ◌<◌, ◌≤◌, Bool, true, false, List}
 use Rattle.std.proofs.Common.{[], ◌∷◌, ◌++◌, map, length, take, drop, arith, ⊎_elim}
 use Rattle.std.specs.Prelude.{not, ◌&&◌, if◌then◌else◌, slice_index_or}
@@ -17,7 +17,7 @@ use Rattle.tql_spec.specs.Words.{same_text}
 use Rattle.tql_bind_query.specs.Headed.{Headed, headed_from, headed_of, is_before, place_in, AreRising}
 use Rattle.tql_bind_query.specs.declared.sorted_headings.Heading.{Heading}
 
--- ---- the places of a name
+-- ---- the indexes of a name
 
 abbrev is_named : Name → Headed → Bool
 is_named n h = same_text n h.name
@@ -50,7 +50,7 @@ seen_places n [] = refl
 seen_places n (h ∷ s) = placed_alike (same_text n h.name.now) h (filter (names_it n) s)
     (filter (is_named n) (map headed_of s)) (seen_places n s)
 
--- ---- what ties is the same name
+-- ---- names that compare as equal are the same
 
 tied_is : (o : Ordering) → not (is_lt (ordering_reverse o)) && not (is_lt o) ≡ is_eq (ordering_reverse o)
 tied_is Less = refl
@@ -63,7 +63,7 @@ ties_are x h =
     subst (λ (p : Ordering). not (is_lt p) && not (is_lt o) ≡ is_eq p)
     (sym (nat_list_cmp_total.antisymm x.name.now h.name.now)) (tied_is o)
 
--- a stable sort leaves each name at its places, from the left
+-- a stable sort keeps the indexes of each name in order
 pub places_stay : (names : List Name) (old new : List Heading) (x : Heading)
     → map headed_of old ≡ headed_from 0 names → IsStableBy is_before old new
     → map place_in (filter (names_it x.name.now) new) ≡ places_of x.name.now 0 names
@@ -174,7 +174,7 @@ module _ (n : Name) (hs : List Heading) where
   flipped : (b : Bool) (h : Heading) → is_eq (ordering_reverse (by_name h)) ≡ b → names_it n h ≡ b
   flipped b h e = ap is_eq (nat_list_cmp_total.antisymm n h.name.now) ∙ e
 
-  -- those of the name are between two places
+  -- the headings of the name are between two places
   pub named_between : (i j : ℕ) → i ≤ length hs → j ≤ length hs → Begins i → Ends j
       → take (j - i) (drop i hs) ≡ filter (names_it n) hs
   named_between i j l m a b =

@@ -1,4 +1,4 @@
--- Numbers without their repeats: GROUP BY with its columns once.
+-- Numbers without repeats, for GROUP BY.
 use Rattle.std.proofs.Common.{◌≡◌, refl, sym, ap, ◌∙◌, ℕ, Bool, true, false, List, [], ◌∷◌, eqb-true}
 use Rattle.std.specs.Prelude.{◌&&◌, ◌||◌, ◌==◌, if◌then◌else◌, not}
 use Rattle.std.specs.List.{dedup, dedup_from, list_any}
@@ -14,7 +14,7 @@ passed_twice : (a b : Bool) → a || b ≡ a || (a || b)
 passed_twice true b = refl
 passed_twice false b = refl
 
--- a test passes the same of a list without the numbers that are the same as the one before them
+-- removing adjacent repeats does not change whether any number passes a test
 any_from : (p : ℕ → Bool) (k : ℕ) (xs : List ℕ)
     → list_any p (dedup_from (λ x y. x == y) k xs) ≡ p k || list_any p xs
 any_from p k [] = refl
@@ -30,7 +30,7 @@ any_once : (p : ℕ → Bool) (xs : List ℕ) → list_any p (dedup (λ x y. x =
 any_once p [] = refl
 any_once p (x ∷ xs) = any_from p x xs
 
--- the numbers of a list stand in what is left of the list after a sort
+-- the numbers of a list are those of its sorted form without repeats
 pub numbers_stay : (i : ℕ) (xs ys zs : List ℕ) → IsPermutation xs ys → zs ≡ dedup (λ x y. x == y) ys
     → has_number i zs ≡ has_number i xs
 numbers_stay i xs ys zs same once = ap (has_number i) once ∙ any_once (λ j. i == j) ys

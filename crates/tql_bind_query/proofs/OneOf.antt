@@ -1,4 +1,4 @@
--- Exactly one of several, or the first in its place with a fault.
+-- Exactly one of several, or else the first with a fault.
 use Rattle.std.proofs.Common.{◌≡◌, refl, ℕ, List, [], ◌∷◌, Bool, true, false}
 use Rattle.std.specs.Prelude.{not, Some, None, if◌then◌else◌}
 use Rattle.tql_spec.specs.Binding.{column_of}
@@ -15,7 +15,7 @@ grouped_is (APeriod s e k ∷ []) = refl
 grouped_is (AColumn i c ∷ t ∷ ts) = refl
 grouped_is (APeriod s e k ∷ t ∷ ts) = refl
 
--- a number where it is there
+-- a number, if it exists
 pub placed_is : (b : Bool) (i : ℕ)
     → unless (not b) NameUnknownAmbiguousOrRepeated (if b then i else 0) ≡ or_first (if b then Some i else None)
 placed_is true i = refl

@@ -54,7 +54,7 @@ pub selected_is : (defs : List TableDef) (s : SelectTree) (keys : List OrderTree
     → selected defs s keys ≡ select defs s keys
 selected_is defs s keys = λ i. record { faults = same_faults defs s keys i; value = same_value defs s keys i }
 
--- ---- from the parts
+-- ---- the whole from the parts
 
 -- the clauses
 pub clauses_bound : (scope : List Known) (s : SelectTree) (old a b c d new : Option Refusal) (filter : List Cond)
@@ -117,7 +117,7 @@ select_bound defs s keys old a b c new ls scope cl order linked whole names boun
 
 -- ---- the chains alone
 
--- the conjuncts of each ON are there
+-- the conjuncts of each ON are in the arena
 pub alone_there : (t : Terms) (ls : List code.Linked) → All (HasJoins t) ls
     → All (λ (c : Chain). All (λ (j : Join). All (HasCond t) j.on.items) c.joins.items)
     (map (λ (l : code.Linked). l.chain) ls)
@@ -132,7 +132,7 @@ chains_of_linked : (t : Terms) (ls : List code.Linked)
 chains_of_linked t [] = refl
 chains_of_linked t (l ∷ ls) = ap (λ (cs : List query.Chain). chain_of t l.chain ∷ cs) (chains_of_linked t ls)
 
--- they are those that were bound, whichever terms were added since
+-- they are the chains that were bound, whatever terms were added since
 pub alone_kept : (t u : Terms) (ls : List code.Linked) (cs : List Chain) → Stays t u → All (HasJoins t) ls
     → cs ≡ map (λ (l : code.Linked). l.chain) ls
     → map (chain_of u) cs ≡ map (λ (l : Linked). l.chain) (map (linked_of t) ls)

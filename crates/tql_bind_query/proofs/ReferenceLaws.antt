@@ -1,4 +1,4 @@
--- Which versions a reference asks for.
+-- The versions that a reference selects.
 use Rattle.std.specs.Prelude.{◌≡◌, ℤ, Bool, not, Option, Some, None, is_none, is_some}
 use Rattle.std.proofs.Common.{sym, ap}
 use Rattle.tql_spec.specs.Binding.{moment, when}
@@ -10,7 +10,7 @@ use Rattle.tql_spec.specs.Syntax.{MomentTree, AsOfTree}
 use Rattle.tql_bind_expr.specs.Gathered.{Gathers}
 use Rattle.tql_bind_expr.proofs.Gathering.{sound_here, bound}
 
--- whether something is missing, told by whether it is there
+-- a value is missing exactly if it is not present
 pub missing : {X : Type 0} (o : Option X) (b : Bool) → b ≡ is_some o → is_none o ≡ not b
 missing None b e = sym (ap not e)
 missing (Some x) b e = sym (ap not e)
@@ -24,7 +24,7 @@ as_of_bound d t old mid new m refused point =
     bound (refuse_if (is_none d.system) FormNotAllowedHere) (λ u. moment t >>= last) old mid new tt (AsOf m) refused
     (bound (moment t) last mid new new m (AsOf m) point (sound_here (AsOf m) new))
 
--- a range of moments, of whichever kind
+-- a range of moments, of any kind
 abbrev pub ranged : TableDef → (ℤ → ℤ → When) → MomentTree → MomentTree → Checked When
 ranged d which a b = do
   u ← refuse_if (is_none d.system) FormNotAllowedHere

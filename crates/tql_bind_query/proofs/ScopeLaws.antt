@@ -14,7 +14,7 @@ use Rattle.tql_bind_query.specs.declared.from.Linked.{Linked}
 use Rattle.tql_bind_query.proofs.ChainLaws.{at_index, widths}
 use Rattle.tql_bind_query.proofs.FromLaws.{Within}
 
--- a reference that stands so far behind has numbers
+-- the column numbers of a reference fit in 64 bits after this number of other columns
 abbrev pub Fits : ℕ → Known → Type 0
 Fits n k = n + (k.offset + length k.columns.now) < 2 ^ 64
 
@@ -24,7 +24,7 @@ fits_all n w few (k ∷ ks) h =
     let here = All-head (Within w) k ks h in
     All-cons (Fits n) k ks (omega (arith, here, few)) (fits_all n w few ks (All-tail (Within w) k ks h))
 
--- the references so far are there, and with those of the chains that are left they are all
+-- the references so far, followed by those of the remaining chains, are all of them
 pub record WholeLeads (ls : List Linked) (ks : List Known) (n : ℕ) (left : List Linked) : Type 0 where
   pub placed : All IsPlaced left
   pub fits : n + widths left ≤ 512
@@ -39,7 +39,7 @@ whole_begun ls ks empty placed fits = record {
   leads = λ t. ap (λ l. scope_of l ++ whole_scope 0 (map (linked_of t) ls)) empty;
 }
 
--- the references of the next chain have numbers
+-- the column numbers of the next chain's references fit in 64 bits
 pub next_fits : (ls : List Linked) (ks : List Known) (n : ℕ) (xs : List Linked) (i : ℕ) (l : Linked) → i < length xs
     → l ≡ get_or xs i l → WholeLeads ls ks n (drop i xs) → All (Fits n) l.scope.items
 next_fits ls ks n xs i l within is so =
@@ -65,7 +65,7 @@ whole_next ls ks ms n xs i l within is so added =
           ∙ append_assoc (scope_of ks) (map (moved n) (scope_of l.scope.items)) rest ∙ here.leads t;
     }
 
--- no chain is left
+-- no chain remains
 pub whole_done : (ls : List Linked) (ks : List Known) (n : ℕ) (xs : List Linked) (i : ℕ) → length xs ≤ i
     → WholeLeads ls ks n (drop i xs) → IsWhole ls ks
 whole_done ls ks n xs i past so =

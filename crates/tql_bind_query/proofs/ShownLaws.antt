@@ -1,4 +1,4 @@
--- Output columns that are added one behind another, while the terms of their statement grow.
+-- Output columns that are added in order, while the terms of their statement grow.
 use Rattle.std.proofs.Common.{◌≡◌, refl, sym, ap, ◌∙◌, subst, arith, ℕ, zero, suc, ◌+◌, ◌<◌, ◌≤◌, List, [], ◌∷◌, ◌++◌}
 use Rattle.std.proofs.Common.{length, map, All, drop, get_or, append_assoc, append-nil}
 use Rattle.std.specs.List.{flat_map}
@@ -28,7 +28,7 @@ use Rattle.tql_bind_query.specs.declared.outputs.SelectList.{SelectList}
 use Rattle.tql_value.specs.Views.{plain_kind}
 use Rattle.tql_value.specs.declared.value.Kind as code
 
--- ---- expressions that are there
+-- ---- expressions in the arena
 
 pub exprs_kept : {t u : Terms} → Stays t u → (xs : List ExprId) → All (HasExpr t) xs → map (expr u) xs ≡ map (expr t) xs
 exprs_kept {t} {u} s [] h = refl
@@ -45,11 +45,11 @@ exprs_there {t} {u} s (x ∷ xs) h =
 
 -- ---- items
 
--- what is shown so far, and the items that are left
+-- the select list so far, followed by the remaining items
 abbrev pub left_of : List Known → List Item → Shown → Checked Shown
 left_of scope its c = item_outputs scope (suc (length c.headings)) its >>= λ os. sound (behind c os)
 
--- what is shown so far, and one item
+-- the select list so far, followed by one item
 abbrev pub with_item : Item → Shown → Typed → Shown
 with_item it c v =
     record {
@@ -58,7 +58,7 @@ with_item it c v =
       kinds = c.kinds ++ v.kind ∷ [];
     }
 
--- nothing more behind what is shown
+-- no more output columns
 behind_none : (c : Shown) → behind c [] ≡ c
 behind_none c = λ i. record {
   items = append-nil c.items i;
@@ -66,7 +66,7 @@ behind_none c = λ i. record {
   kinds = append-nil c.kinds i;
 }
 
--- output columns behind others
+-- output columns after others
 behind_all : (c : Shown) (os ps : List Output) → behind (behind c os) ps ≡ behind c (os ++ ps)
 behind_all c os ps =
     let items_in : List Output → List Expr = map (λ (o : Output). o.typed.expr) in
@@ -84,7 +84,7 @@ longer : (ns : List Name) (n : Name) → length (ns ++ n ∷ []) ≡ suc (length
 longer [] n = refl
 longer (m ∷ ns) n = ap suc (longer ns n)
 
--- the next item, and those behind it
+-- the next item, and the items after it
 next_is : (scope : List Known) (it : Item) (its : List Item) (c : Shown)
     → left_of scope (it ∷ its) c ≡ (names.expr scope it.value >>= λ v. left_of scope its (with_item it c v))
 next_is scope it its c =
@@ -113,14 +113,14 @@ next_is scope it its c =
     ∙ ap (λ (n : ℕ). (c.kinds ++ e.value.kind ∷ []) ++ kinds_in n) here in
     λ i. record { faults = faults i; value = record { items = items i; headings = headings i; kinds = kinds i } }
 
--- the output columns so far are there, and with the items that are left they give the whole
+-- the output columns so far are bound, and with the remaining items they give the whole
 pub record ItemsLead (scope : List Known) (whole : Checked Shown) (start : Terms) (old : Option Refusal) (t : Terms)
     (x : SelectList) (left : List Item) (now : Option Refusal) : Type 0 where
   pub stays : Stays start t
   pub held : All (HasExpr t) x.items.items
   pub leads : Leads whole old (left_of scope left (outputs_of t x)) now
 
--- nothing is shown so far
+-- the list is empty so far
 nothing_shown : (t : Terms) (x : SelectList) → x.items.items ≡ [] → x.headings.items ≡ [] → x.kinds.items ≡ []
     → outputs_of t x ≡ shown_by []
 nothing_shown t x items headings kinds = λ i. record {
@@ -184,7 +184,7 @@ items_next scope whole start old t u x y it left mid now l s p =
       leads = subst (λ (d : Shown). Leads whole old (left_of scope left d) now) is led;
     }
 
--- from an index on there is its element and what is behind it
+-- the rest of a list from an index: its element and the elements after it
 at_index : {X : Type 0} (xs : List X) (i : ℕ) (x : X) → i < length xs → x ≡ get_or xs i x
     → drop i xs ≡ x ∷ drop (i + 1) xs
 at_index xs i x h is = at_drop_more (λ l. l) xs i x h ∙ ap (λ y. y ∷ drop (i + 1) xs) (sym is)
@@ -200,7 +200,7 @@ items_item {X} g scope whole start old t u xs i z x y mid now within is l s p =
     items_next scope whole start old t u x y (g z) (map g (drop (i + 1) xs)) mid now
     (subst (λ (left : List X). ItemsLead scope whole start old t x (map g left) mid) (at_index xs i z within is) l) s p
 
--- no item is left
+-- no item remains
 pub items_done : {X : Type 0} (g : X
     → Item) (scope : List Known) (whole : Checked Shown) (start : Terms) (old : Option Refusal) (t : Terms)
     (xs : List X) (i : ℕ) (x : SelectList) (now : Option Refusal)
@@ -239,14 +239,14 @@ column_pushed t u x y i c e name headings k held s there is named kind items kin
       are = λ j. record { items = grown j; headings = called j; kinds = kind_is j };
     }
 
--- the output columns so far are there, and with those that are left they are all that stand behind the first
+-- the output columns so far are in the arena; with the remaining ones, they are all that follow the initial ones
 pub record OutputsLead (start : Terms) (x : SelectList) (all : List Output) (t : Terms) (y : SelectList)
     (left : List Output) : Type 0 where
   pub stays : Stays start t
   pub held : All (HasExpr t) y.items.items
   pub are : behind (outputs_of t y) left ≡ behind (outputs_of start x) all
 
--- more output columns are there
+-- more output columns are added
 pub outputs_next : (start : Terms) (x : SelectList) (all : List Output) (t u : Terms) (y z : SelectList)
     (os left : List Output)
     → OutputsLead start x all t y (os ++ left) → PushesOutputs os t u y z → OutputsLead start x all u z left
@@ -259,7 +259,7 @@ outputs_next start x all t u y z os left l p =
 
 -- ---- the columns of a reference
 
--- what stands at an index of a mapped list
+-- the element at an index of a mapped list
 placed : {X Y : Type 0} (g : X → Y) (xs : List X) (i : ℕ) (d : X) → get_or (map g xs) i (g d) ≡ g (get_or xs i d)
 placed g [] i d = refl
 placed g (x ∷ xs) zero d = refl
@@ -295,7 +295,7 @@ columns_in k = all_columns_from k.offset k.columns
 abbrev pub columns_of_all : List Known → List Output
 columns_of_all = flat_map columns_in
 
--- `*`, where that is the last call
+-- `*`, as the last call
 pub star_ok : {Y : Type 0} (scope : List Known) (whole : Checked Shown) (view : Y
     → Shown) (now : Option Refusal) (r : Result Y AllocError)
     → whole ≡ shown scope AllColumns → IfOk r (λ y. sound (view y) ≡ shown scope AllColumns)

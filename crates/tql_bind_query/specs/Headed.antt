@@ -1,4 +1,4 @@
--- Headings with the places of their output columns.
+-- Headings with the indexes of their output columns.
 use Rattle.std.specs.Prelude.{◌≡◌, ◌==◌, ℕ, suc, Bool, false, List, [], ◌∷◌, length, map}
 use Rattle.std.specs.Cmp.Lexicographic.{slice_cmp}
 use Rattle.std.specs.List.{filter}
@@ -9,33 +9,33 @@ use Rattle.tql_spec.specs.Definition.{Name}
 use Rattle.tql_spec.specs.Words.{same_text}
 use Rattle.tql_bind_query.specs.declared.sorted_headings.Heading.{Heading}
 
--- a heading, and its place
+-- a heading, and its index
 pub record Headed : Type 0 where
   pub name : Name
   pub place : ℕ
 
--- those that the code's values stand for
+-- the heading and the index that the code's value represents
 abbrev pub headed_of : Heading → Headed
 headed_of h = record { name = h.name.now; place = h.place }
 
--- headings, whose places begin with this one
+-- headings with their indexes, which begin with this one
 abbrev pub headed_from : ℕ → List Name → List Headed
 headed_from i [] = []
 headed_from i (h ∷ hs) = record { name = h; place = i } ∷ headed_from (suc i) hs
 
--- the place of a heading
+-- the index of a heading
 abbrev pub place_in : Heading → ℕ
 place_in h = h.place
 
--- whether one stands before another by its bytes
+-- whether one precedes another by its bytes
 abbrev pub is_before : Heading → Heading → Bool
 is_before a b = is_lt (slice_cmp nat_cmp a.name.now b.name.now)
 
--- headings that rise
+-- headings in ascending order
 abbrev pub AreRising : List Heading → Type 0
 AreRising hs = IsSortedBy is_before hs
 
--- sorted headings: none, or among them each name stands at its places, from the left
+-- sorted headings: none, or all of them, in which each name has its indexes, from the left
 pub record AreSorted (names : List Name) (hs : List Heading) : Type 0 where
   pub rise : AreRising hs
   pub placed : (length hs == 0) ≡ false → (x : Heading)

@@ -5,11 +5,11 @@ use Rattle.tql_spec.specs.Calendar.{number_of}
 use Rattle.tql_spec.specs.Names.{Checked, unless}
 use Rattle.tql_spec.specs.Refusal.{NameUnknownAmbiguousOrRepeated}
 
--- the place, from 0, of a position that so many columns have
+-- the index of a position among the columns of a given width
 abbrev pub place_at : ℕ → ℕ → Option ℕ
 place_at width n = if has_position n width then Some (n - 1) else None
 
--- the place of a position by its digits, with the first in the place of one that is not there
+-- the index of a position, given by its digits; a fault and the first index if there is none
 abbrev pub position_place : ℕ → List ℕ → Checked ℕ
 position_place width ds =
     let n = number_of ds in

@@ -17,7 +17,7 @@ use Rattle.tql_bind_query.specs.Shown.{Shown, outputs_of, shown}
 use Rattle.tql_bind_query.specs.declared.clauses.Clauses as code
 use Rattle.tql_bind_query.specs.declared.query.TypedQuery.{TypedQuery}
 
--- the clauses behind FROM
+-- the clauses after FROM
 pub record Clauses : Type 0 where
   pub filter : List Cond
   pub grouping : Option (List ℕ)
@@ -58,20 +58,20 @@ selected_over chains s keys = do
   order ← check_each (order_key c.what.headings) keys
   sound (selected_by (map (λ (l : Linked). l.chain) chains) s.distinct c order)
 
--- no two references are known by one name
+-- no two references are known by the same name
 abbrev pub unrepeated : List Known → Checked (Unit {0})
 unrepeated scope = refuse_if (repeats (map (λ (k : Known). k.name) scope)) NameUnknownAmbiguousOrRepeated
 
--- all of it
+-- the whole query
 abbrev pub selected : List TableDef → SelectTree → List OrderTree → Checked Selected
 selected defs s keys = do
   chains ← check_each (chain defs) (s.first ∷ s.more)
   u ← unrepeated (whole_scope 0 chains)
   selected_over chains s keys
 
--- ---- what the code's values stand for
+-- ---- the meaning of the code's values
 
--- the clauses, among these terms
+-- the clauses, in this arena
 abbrev pub clauses_of : Terms → code.Clauses → Clauses
 clauses_of t c =
     record {
@@ -81,7 +81,7 @@ clauses_of t c =
       what = outputs_of t c.list;
     }
 
--- their conditions and expressions are there
+-- their conditions and expressions are in the arena
 pub record HoldsClauses (t : Terms) (c : code.Clauses) : Type 0 where
   pub filter : All (HasCond t) c.filter.items
   pub having : All (HasCond t) c.having.items

@@ -1,4 +1,4 @@
--- What a select list gives.
+-- Bound select lists.
 use Rattle.std.specs.Prelude.{◌≡◌, ℕ, suc, List, [], ◌∷◌, ◌++◌, map, length, Option, option_map, string_bytes, All}
 use Rattle.tql_spec.specs.Binding.{Output, heading_by, outputs}
 use Rattle.tql_spec.specs.Definition as definition
@@ -23,7 +23,7 @@ pub record Shown : Type 0 where
   pub headings : List Name
   pub kinds : List (Option Kind)
 
--- those of output columns
+-- the values, headings and kinds of these output columns
 abbrev pub shown_by : List Output → Shown
 shown_by os = record {
   items = map (λ (o : Output). o.typed.expr) os;
@@ -31,7 +31,7 @@ shown_by os = record {
   kinds = map (λ (o : Output). o.typed.kind) os;
 }
 
--- what is shown so far, and more output columns
+-- the select list so far, followed by more output columns
 abbrev pub behind : Shown → List Output → Shown
 behind c os =
     record {
@@ -40,15 +40,15 @@ behind c os =
       kinds = c.kinds ++ map (λ (o : Output). o.typed.kind) os;
     }
 
--- a select list bound
+-- a bound select list
 abbrev pub shown : List Known → Items → Checked Shown
 shown scope is = outputs scope is >>= λ os. sound (shown_by os)
 
--- a column of this number as an output column
+-- the column with this number as an output column
 abbrev pub column_output : ℕ → definition.Column → Output
 column_output i c = record { typed = names.typed (Column i) c.kind; heading = c.name }
 
--- what the code's output columns stand for, among these terms
+-- the output columns of the code, in this arena
 abbrev pub outputs_of : Terms → SelectList → Shown
 outputs_of t x = record {
   items = map (expr t) x.items.items;
@@ -56,7 +56,7 @@ outputs_of t x = record {
   kinds = map (option_map plain_kind) x.kinds.items;
 }
 
--- an item is bound, and stands behind the output columns that were there, with the heading of that position
+-- an item is bound and added as the last output column, with the heading of that position
 pub record PushesItem (scope : List Known) (it : Item) (old new : Option Refusal) (t : Terms) (x y : SelectList) :
     Type 0 where
   pub value : Typed
@@ -67,7 +67,7 @@ pub record PushesItem (scope : List Known) (it : Item) (old new : Option Refusal
       (sole_name it.value) (suc (length x.headings.items)) ∷ []
   pub kinds : y.kinds.items ≡ x.kinds.items ++ value.kind ∷ []
 
--- these output columns stand behind those that were there
+-- these output columns are added after the existing ones
 pub record PushesOutputs (os : List Output) (t u : Terms) (x y : SelectList) : Type 0 where
   pub stays : Stays t u
   pub held : All (HasExpr u) y.items.items

@@ -1,4 +1,4 @@
-//! The chains of FROM with their names bound, and the references of all of them in scope.
+//! The bound chains of FROM, and the references in scope of each.
 ghost use Rattle.std.specs.Prelude.{◌≡◌, ◌≤◌, ◌+◌, ◌∷◌, All, IfOk, length, map, string_bytes, sum_by};
 ghost use Rattle.tql_spec.specs.Binding as binding;
 ghost use Rattle.tql_spec.specs.Definition.{no_table};
@@ -24,7 +24,7 @@ use tql_expr::terms::Terms;
 use tql_memory::Memory;
 use tql_syntax_tree::statement::{ChainTree, RefTree};
 
-/// A chain of FROM, its references, whose columns count from the first of the chain, and how many columns it has.
+/// A bound chain of FROM, its references, and its number of columns. Column numbers are counted from the chain's first.
 #[derive(Drop)]
 pub struct Linked<'a> {
     pub chain: Chain,
@@ -32,7 +32,7 @@ pub struct Linked<'a> {
     pub width: usize,
 }
 
-/// A chain of one reference.
+/// Binds the first reference of a chain, as a chain of its own.
 fn first_linked<'a>(
     memory: Memory,
     catalog: &'a Catalog,
@@ -60,7 +60,7 @@ fn first_linked<'a>(
     })
 }
 
-/// A chain bound, whose references are known by these names.
+/// Binds a chain whose references are known by these names.
 fn bound_chain<'a>(
     memory: Memory,
     catalog: &'a Catalog,
@@ -102,7 +102,7 @@ fn bound_chain<'a>(
     Ok(linked)
 }
 
-/// One more chain, behind those that are bound.
+/// Binds a chain and adds it after the bound ones.
 fn push_chain<'a>(
     memory: Memory,
     catalog: &'a Catalog,
@@ -127,11 +127,11 @@ fn push_chain<'a>(
     Ok(())
 }
 
-/// The chains of FROM bound, from the left: the first and those behind it, whose references are known by these names
-/// (ISO/IEC 9075-2:2011, 7.5 and 7.7). Where a table is not found, binding goes on over `nothing`. Faults: no table
-/// has the name; FOR SYSTEM_TIME on a table that is not system-versioned; a literal that reads as no moment or is out
-/// of range; in an ON a name that is unknown or ambiguous, kinds that do not fit, an aggregate. The only error is a
-/// refused growth.
+/// Binds the chains of FROM, from the left: the first and the later ones, whose references are known by these names
+/// (ISO/IEC 9075-2:2011, 7.5 and 7.7). If a table is not found, `nothing` takes its place. Faults: no table has the
+/// name; FOR SYSTEM_TIME on a table that is not system-versioned; a literal that is no moment or is out of range; in an
+/// ON, a name that is unknown or ambiguous, kinds that do not fit, or an aggregate. The only error is a refused
+/// allocation.
 pub fn chains<'a>(
     memory: Memory,
     catalog: &'a Catalog,

@@ -1,4 +1,4 @@
-//! The columns of GROUP BY, and what may stand in a grouped query.
+//! The columns of GROUP BY, and what a grouped query may contain.
 ghost use Rattle.std.specs.Prelude.{◌≡◌, ℕ, ◌||◌, All, IfOk, map};
 ghost use Rattle.std.specs.List.{list_any};
 ghost use Rattle.tql_spec.specs.Binding as binding;
@@ -22,10 +22,10 @@ use tql_memory::Memory;
 use tql_syntax_tree::expression::Named;
 use tql_syntax_tree::statement::{Item, Items, SelectTree};
 
-/// The most columns of GROUP BY that are searched with their repeats.
+/// Up to this number of columns in GROUP BY, repeats are not removed before they are searched.
 const FEW: usize = 8;
 
-/// The number of the column that a name stands for, where it stands for one and nothing else.
+/// Returns the number of the column that a name means, if it means exactly one column and nothing else.
 fn sole_number(found: &[Thing<'_>]) -> Option<usize>
     ensures { result ≡ sole_number (things_of found.now) }
 {
@@ -33,7 +33,7 @@ fn sole_number(found: &[Thing<'_>]) -> Option<usize>
     Some(number)
 }
 
-/// The number of a column of GROUP BY.
+/// Returns the number of a column of GROUP BY. Adds a fault if the name does not mean exactly one column.
 fn group_column(
     memory: Memory,
     scope: &[Known<'_>],
@@ -50,8 +50,8 @@ fn group_column(
     ))
 }
 
-/// The numbers of the columns of GROUP BY (ISO/IEC 9075-2:2011, 7.9). A fault where a name is not that of exactly one
-/// column. The only error is a refused growth.
+/// Returns the numbers of the columns of GROUP BY (ISO/IEC 9075-2:2011, 7.9). Adds a fault if a name does not mean
+/// exactly one column. The only error is a refused allocation.
 pub fn group_columns(
     memory: Memory,
     scope: &[Known<'_>],
@@ -96,7 +96,7 @@ fn is_star(items: &Items<'_>) -> bool
     matches!(items, Items::All)
 }
 
-/// Whether a column that is none of these stands outside the aggregates, or `*` does.
+/// Whether the select list is `*`, or a column other than these occurs outside the aggregates.
 fn has_loose(
     groups: &[usize],
     select: &SelectTree<'_>,
@@ -115,7 +115,7 @@ fn has_loose(
         || terms.finds_any_in(Search::Loose(groups), having)
 }
 
-/// Returns the byte offset of the item of this number in the select list, or 0 where the list is `*`.
+/// Returns the byte offset of an item of the select list, by its index, or 0 if the list is `*`.
 fn item_start(items: &Items<'_>, number: usize) -> u32 {
     match items {
         Items::All => 0,
@@ -131,7 +131,7 @@ fn start_of_item(item: &Item<'_>) -> u32 {
     item.value.first.first.start
 }
 
-/// Returns what the fault of the select list or of HAVING in a grouped query is about.
+/// Returns the cause and place of the fault of the select list or of HAVING in a grouped query.
 fn about_grouping(
     is_faulty: bool,
     groups: &[usize],
@@ -159,8 +159,8 @@ fn about_grouping(
     About::at(Cause::LooseHaving, 0)
 }
 
-/// Whether an aggregate stands inside an aggregate, or in a grouped query `*` or a column that is none of these stands
-/// outside the aggregates.
+/// Whether an aggregate contains an aggregate, or in a grouped query `*` or a column other than these occurs outside
+/// the aggregates.
 fn has_grouping_fault(
     is_grouped: bool,
     groups: &[usize],
@@ -179,7 +179,7 @@ fn has_grouping_fault(
         || (is_grouped && has_loose(groups, select, terms, items, having))
 }
 
-/// The fault of these columns of GROUP BY and what it is about.
+/// Whether a query with these columns of GROUP BY has a grouping fault, and the cause and place of the fault.
 fn fault_among(
     is_grouped: bool,
     groups: &[usize],
@@ -198,7 +198,7 @@ fn fault_among(
     (is_faulty, about)
 }
 
-/// Numbers, each once.
+/// Returns the numbers, each once.
 fn distinct(memory: Memory, numbers: &[usize]) -> Result<Vec<usize, Memory>, AllocError>
     ensures { IfOk result (λ v. (i : ℕ) → has_number i v.items ≡ has_number i numbers.now) }
 {
@@ -208,10 +208,10 @@ fn distinct(memory: Memory, numbers: &[usize]) -> Result<Vec<usize, Memory>, All
     Ok(distinct)
 }
 
-/// Whether an aggregate stands inside an aggregate, or in a grouped query `*` or a column that is none of the
-/// grouping ones stands outside the aggregates (ISO/IEC 9075-2:2011, 7.12); and what the fault is about. Each column of
-/// each item is looked up among the grouping ones: where these are many, their repeats are dropped first. The only
-/// error is a refused growth.
+/// Whether a query has a grouping fault (ISO/IEC 9075-2:2011, 7.12), and its cause and place. An aggregate contains an
+/// aggregate; or in a grouped query, `*` or a column that is not a grouping column occurs outside the aggregates. Each
+/// column of each item is looked up among the grouping columns, so repeats are first removed if these are many. The
+/// only error is a refused allocation.
 pub fn grouping_fault(
     memory: Memory,
     is_grouped: bool,

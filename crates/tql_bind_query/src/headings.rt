@@ -12,14 +12,14 @@ use tql_memory::Memory;
 use tql_syntax_tree::expression::Expr;
 use tql_syntax_tree::statement::Item;
 
-/// The heading at a position, counted from 1, of what has no name: `C` and the position.
+/// Returns the heading of a column without a name: `C` and its position, counted from 1.
 fn numbered(memory: Memory, position: usize) -> Result<String<Memory>, AllocError>
     ensures { IfOk result (λ h. string_bytes h ≡ codes "C" ++ decimal position) }
 {
     format!(in memory; "C{position}")
 }
 
-/// The heading at a position of an expression without an alias.
+/// Returns the heading of an expression without an alias: the name of a column alone, else `C` and the position.
 fn own_heading(
     memory: Memory,
     value: &Expr<'_>,
@@ -34,8 +34,8 @@ fn own_heading(
     }
 }
 
-/// The heading of an item at a position, counted from 1: its alias; else the column's name, where it is a column
-/// alone; else `C` and the position. The only error is a refused growth.
+/// Returns the heading of an item at a position, counted from 1: its alias, else the name of a column alone, else `C`
+/// and the position. The only error is a refused allocation.
 pub fn heading(
     memory: Memory,
     item: &Item<'_>,

@@ -21,7 +21,7 @@ use tql_expr::terms::{CondId, Terms};
 use tql_memory::Memory;
 use tql_syntax_tree::statement::{JoinTree, RefTree};
 
-/// The reference that is joined.
+/// Returns the table reference that the join adds.
 pub(crate) fn joined_reference<'a>(join: &JoinTree<'a>) -> RefTree<'a>
     ensures { ref_of result ≡ reference_in (join_of join.now) }
 {
@@ -32,7 +32,7 @@ pub(crate) fn joined_reference<'a>(join: &JoinTree<'a>) -> RefTree<'a>
     }
 }
 
-/// How it is joined.
+/// Returns the kind of the join.
 fn join_kind(join: &JoinTree<'_>) -> JoinKind
     ensures { result ≡ kind_in (join_of join.now) }
 {
@@ -43,7 +43,7 @@ fn join_kind(join: &JoinTree<'_>) -> JoinKind
     }
 }
 
-/// The conjuncts of its ON, none where it has none.
+/// Binds the conjuncts of the join's ON; none if it has no ON.
 fn on(
     memory: Memory,
     scope: &[Known<'_>],
@@ -64,8 +64,8 @@ fn on(
     }
 }
 
-/// One more join of a chain, of a reference that is known by this name: its ON sees the references so far and the one
-/// joined.
+/// Binds a join and adds it to its chain. Its reference is known by this name. Its ON sees the references of the chain
+/// so far and the one that is joined.
 pub(crate) fn add_join<'a>(
     memory: Memory,
     catalog: &'a Catalog,

@@ -1,4 +1,4 @@
-//! SELECT with its names bound. Every fault is gathered, and the first in the order of report is kept.
+//! Name binding of SELECT. Every fault is collected, and the first in the order of report is kept.
 #![tactic(auto)]
 
 mod clauses;

@@ -24,14 +24,14 @@ use tql_memory::Memory;
 use tql_syntax_tree::expression::Name;
 use tql_syntax_tree::statement::{KeyName, OrderTree};
 
-/// Whether this is the heading.
+/// Whether the heading is this name.
 fn is_heading(heading: &String<Memory>, name: &str) -> bool
     ensures { result ≡ same_text name.now (string_bytes heading.now) }
 {
     name == heading.as_str()
 }
 
-/// The places, from 0, at which a heading stands.
+/// Returns the indexes of the output columns with this heading.
 fn places_of(
     memory: Memory,
     headings: &[String<Memory>],
@@ -48,7 +48,7 @@ fn places_of(
     Ok(found)
 }
 
-/// The place, where there is exactly one.
+/// Returns the index if there is exactly one.
 fn only_place(places: &[usize]) -> Option<usize>
     ensures { binding.only_place places.now ≡ or_first result }
 {
@@ -58,7 +58,7 @@ fn only_place(places: &[usize]) -> Option<usize>
     }
 }
 
-/// Returns what the fault of a heading that is at none of so many places, or at several, is about.
+/// Returns the cause and place of the fault that `places` output columns have the heading: none, or several.
 fn no_heading(places: usize, start: u32) -> About {
     match places {
         0 => About::at(Cause::NoHeading, start),
@@ -66,8 +66,8 @@ fn no_heading(places: usize, start: u32) -> About {
     }
 }
 
-/// The place of the output column with this heading, where there is exactly one, and what the fault is about where
-/// there is not. It is found by bisection where the headings are sorted.
+/// Returns the index of the only output column with this heading, or the cause and place of the fault if there is not
+/// exactly one. Sorted headings are searched by bisection.
 fn place_of(
     memory: Memory,
     headings: &[String<Memory>],
@@ -87,7 +87,7 @@ fn place_of(
     Ok((only_heading(named), no_heading(named.len(), start)))
 }
 
-/// The output column with this heading.
+/// Returns the index of the output column with this heading. Adds a fault if there is not exactly one.
 fn heading_place(
     memory: Memory,
     headings: &[String<Memory>],
@@ -106,7 +106,7 @@ fn heading_place(
     Ok(faults.or_first(place, about))
 }
 
-/// The place, from 0, of a position, counted from 1, among so many columns.
+/// Returns the index of a position, counted from 1, among `width` columns. None if it is out of range.
 fn place_at(digits: &[u8], width: usize) -> Option<usize>
     ensures { result ≡ place_at width (number_of digits.now) }
 {
@@ -118,7 +118,7 @@ fn place_at(digits: &[u8], width: usize) -> Option<usize>
     }
 }
 
-/// The output column at a position, by its digits.
+/// Returns the index of the output column at a position, given by its digits. Adds a fault if there is none.
 fn position_place(digits: &str, width: usize, faults: &mut Faults) -> usize
     ensures { Gathers (position_place width digits.now) faults.old faults.new result }
 {
@@ -128,7 +128,7 @@ fn position_place(digits: &str, width: usize, faults: &mut Faults) -> usize
     )
 }
 
-/// The output column that a key names.
+/// Returns the index of the output column that a sort key names.
 fn key_place(
     memory: Memory,
     headings: &[String<Memory>],
@@ -147,7 +147,7 @@ fn key_place(
     }
 }
 
-/// A key of ORDER BY.
+/// Binds a key of ORDER BY.
 fn order_key(
     memory: Memory,
     headings: &[String<Memory>],
@@ -167,16 +167,16 @@ fn order_key(
     })
 }
 
-/// How many keys name a heading.
+/// Returns the number of keys that name a heading.
 fn named(keys: &[OrderTree<'_>]) -> usize {
     keys.iter()
         .filter(|key| matches!(key.key, KeyName::Heading(_)))
         .count()
 }
 
-/// The keys of ORDER BY: each names the output column with a heading, or at a position counted from 1. A fault where
-/// a heading is not that of exactly one column, and where no column is at a position. The only error is a refused
-/// growth.
+/// Binds the keys of ORDER BY. Each names an output column by its heading, or by its position, counted from 1. Adds a
+/// fault if not exactly one column has a heading, or no column is at a position. The only error is a refused
+/// allocation.
 pub fn order_keys(
     memory: Memory,
     headings: &[String<Memory>],

@@ -21,8 +21,7 @@ use tql_memory::Memory;
 use tql_syntax_tree::statement::{Item, Items};
 use tql_value::value::Kind;
 
-/// The output columns of a select list: their values, their headings, and their kinds, each missing where it is not
-/// known.
+/// The output columns of a select list: their values, headings and kinds. A kind is missing if it is not known.
 #[derive(Drop)]
 pub struct SelectList {
     pub items: Vec<ExprId, Memory>,
@@ -31,7 +30,7 @@ pub struct SelectList {
 }
 
 impl SelectList {
-    /// No output column.
+    /// Returns an empty list.
     fn none(memory: Memory) -> SelectList
         ensures items { result.items.items ≡ [] }
         ensures headings { result.headings.items ≡ [] }
@@ -45,7 +44,7 @@ impl SelectList {
     }
 }
 
-/// One more output column: an item of the select list, at the position behind those that are there.
+/// Binds an item of the select list and adds it as the last output column.
 fn push_item(
     memory: Memory,
     scope: &[Known<'_>],
@@ -67,7 +66,7 @@ fn push_item(
     Ok(())
 }
 
-/// The items of a select list: the first, and those behind it.
+/// Binds the items of a select list: the first and the later ones.
 fn these(
     memory: Memory,
     scope: &[Known<'_>],
@@ -90,7 +89,7 @@ fn these(
     Ok(outputs)
 }
 
-/// One more output column: a column of a table, which has this number, by its name.
+/// Adds a column of a table, with its number, as an output column headed by its name.
 fn push_column(
     memory: Memory,
     column: &Column,
@@ -112,7 +111,7 @@ fn push_column(
     Ok(())
 }
 
-/// More output columns: each column of a reference, by its name.
+/// Adds each column of a reference as an output column headed by its name.
 fn push_columns(
     memory: Memory,
     known: &Known<'_>,
@@ -138,7 +137,7 @@ fn push_columns(
     Ok(())
 }
 
-/// `*`: each column of each reference, by its name.
+/// Binds `*`: each column of each reference, headed by its name.
 fn all_columns(
     memory: Memory,
     scope: &[Known<'_>],
@@ -155,8 +154,8 @@ fn all_columns(
     Ok(outputs)
 }
 
-/// The output columns of a select list: what they are, their headings, and their kinds. Faults: a name is unknown or
-/// ambiguous; kinds do not fit; a literal is out of range. The only error is a refused growth.
+/// Binds a select list: the values, headings and kinds of its output columns. Faults: a name is unknown or ambiguous;
+/// kinds do not fit; a literal is out of range. The only error is a refused allocation.
 pub fn outputs(
     memory: Memory,
     scope: &[Known<'_>],

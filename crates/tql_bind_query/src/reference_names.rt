@@ -9,7 +9,7 @@ use std::alloc::AllocError;
 use tql_memory::Memory;
 use tql_syntax_tree::statement::ChainTree;
 
-/// The names of the references of a chain, from the left.
+/// Returns the names of the references of a chain, from the left.
 fn chain_names(
     memory: Memory,
     written: &ChainTree<'_>,
@@ -24,8 +24,8 @@ fn chain_names(
     Ok(names)
 }
 
-/// The names by which the references of FROM are known, a list for each chain: the first, and those behind it. The
-/// only error is a refused growth.
+/// Returns the names by which the references of FROM are known, a list for each chain: the first and the later ones.
+/// The only error is a refused allocation.
 pub fn reference_names(
     memory: Memory,
     first: &ChainTree<'_>,

@@ -1,4 +1,4 @@
-//! A table reference: which versions it asks for, and how it is known.
+//! A table reference: the versions that it reads, and the name by which it is known.
 ghost use Rattle.std.specs.Prelude.{◌≡◌, IfOk, is_none, string_bytes};
 ghost use Rattle.tql_spec.specs.Binding as binding;
 ghost use Rattle.tql_spec.specs.Names.{refuse_if};
@@ -18,7 +18,7 @@ use tql_syntax_tree::statement::{RefTree, SpanTree};
 use tql_value::refusal::Refusal;
 use tql_value::when::When;
 
-/// A fault where the table is not system-versioned.
+/// Adds a fault if the table is not system-versioned.
 fn refuse_unversioned(definition: &TableDef, start: u32, faults: &mut Faults)
     ensures { Gathers (refuse_if (is_none definition.now.system) FormNotAllowedHere) faults.old faults.new tt }
 {
@@ -29,8 +29,8 @@ fn refuse_unversioned(definition: &TableDef, start: u32, faults: &mut Faults)
     );
 }
 
-/// Which versions a FOR SYSTEM_TIME clause asks for (ISO/IEC 9075-2:2011, 7.6). The name of its table is at `start`.
-/// Faults: the table is not system-versioned; a literal reads as no moment. The only error is a refused growth.
+/// Binds a FOR SYSTEM_TIME clause: the versions that it selects (ISO/IEC 9075-2:2011, 7.6). The name of its table is at
+/// `start`. Faults: the table is not system-versioned; a literal is no moment. The only error is a refused allocation.
 pub fn when(
     memory: Memory,
     definition: &TableDef,
@@ -63,7 +63,8 @@ pub fn when(
     }
 }
 
-/// The name by which a reference is known: its alias, or its table's name. The only error is a refused growth.
+/// Returns the name by which a reference is known: its alias, or its table's name. The only error is a refused
+/// allocation.
 pub fn known_as(memory: Memory, reference: RefTree<'_>) -> Result<String<Memory>, AllocError>
     ensures { IfOk result
         (λ name. string_bytes name ≡ binding.known_as (ref_of reference.entry) (ref_of reference.entry).alias) }

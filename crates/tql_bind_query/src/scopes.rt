@@ -13,7 +13,7 @@ use tql_bind_expr::repeats::repeated;
 use tql_bind_expr::scope::Known;
 use tql_memory::Memory;
 
-/// A reference whose columns stand behind so many more.
+/// Returns the reference with `before` more columns before its own.
 fn moved<'a>(known: &Known<'a>, before: usize) -> Known<'a>
     requires { before + (known.now.offset + length known.now.columns.now) < 2 ^ 64 }
     ensures { known_of result ≡ binding.moved before (known_of known.now) }
@@ -28,7 +28,7 @@ fn moved<'a>(known: &Known<'a>, before: usize) -> Known<'a>
     }
 }
 
-/// More references, whose columns stand behind so many others.
+/// Adds references to a scope, with `before` more columns before theirs.
 fn push_moved<'a>(
     known: &[Known<'a>],
     before: usize,
@@ -45,8 +45,8 @@ fn push_moved<'a>(
     Ok(())
 }
 
-/// All references of a query in scope: those of each chain, whose columns stand behind those of the chains before it.
-/// The only error is a refused growth.
+/// Returns all references of a query. The columns of each chain are numbered after those of the chains before it. The
+/// only error is a refused allocation.
 pub fn whole_scope<'a>(
     memory: Memory,
     linked: &[Linked<'a>],
@@ -64,7 +64,7 @@ pub fn whole_scope<'a>(
     Ok(scope)
 }
 
-/// Whether two references are known by one name.
+/// Whether two references are known by the same name.
 #[tactic(auto, using(crate::proofs::ScopeLaws::known_names))]
 pub fn repeats_names(scope: &[Known<'_>]) -> bool
     ensures { result ≡ creation.repeats (map (λ (k : names.Known). k.name) (scope_of scope.now)) }
@@ -72,7 +72,7 @@ pub fn repeats_names(scope: &[Known<'_>]) -> bool
     repeated(scope).is_some()
 }
 
-/// Returns what the fault of two table references with one name is about.
+/// Returns the cause and place of the fault of two table references with one name.
 pub fn same_reference(scope: &[Known<'_>]) -> About {
     match repeated(scope) {
         Some(known) => About::at(Cause::SameReference, known.start),

@@ -1,4 +1,4 @@
-//! Headings that are sorted once, so that each of many keys finds its own by bisection.
+//! Headings sorted once, so that each of many keys finds its heading by bisection.
 ghost use Rattle.std.specs.Prelude.{◌≡◌, IfOk, map, string_bytes};
 ghost use Rattle.std.specs.Cmp.Lexicographic.{slice_cmp};
 ghost use Rattle.std.specs.List.{filter};
@@ -12,24 +12,24 @@ use std::alloc::AllocError;
 use std::cmp::Ordering;
 use tql_memory::Memory;
 
-/// The most keys that look their headings up one after another.
+/// Up to this number of keys, headings are searched linearly.
 const FEW: usize = 4;
 
-/// A heading, and the place of its output column, from 0.
+/// A heading, and the index of its output column.
 #[derive(Clone, Copy)]
 pub struct Heading<'a> {
     pub name: &'a str,
     pub place: usize,
 }
 
-/// The order of two names by their bytes.
+/// Compares two names by their bytes.
 fn order(a: &str, b: &str) -> Ordering
     ensures { result ≡ slice_cmp nat_cmp a.now b.now }
 {
     a.cmp(b)
 }
 
-/// The headings with their places.
+/// Returns the headings with their indexes.
 fn numbered<'a>(
     memory: Memory,
     headings: &'a [String<Memory>],
@@ -44,7 +44,7 @@ fn numbered<'a>(
     Ok(numbered)
 }
 
-/// The headings with their places, sorted by their bytes.
+/// Returns the headings with their indexes, sorted by their bytes.
 fn sorted<'a>(
     memory: Memory,
     headings: &'a [String<Memory>],
@@ -56,8 +56,8 @@ fn sorted<'a>(
     Ok(sorted)
 }
 
-/// The headings with their places, sorted by their bytes where more than a few keys look them up, and else none. The
-/// only error is a refused growth.
+/// Returns the headings with their indexes, sorted by their bytes, or none if only a few keys look them up. The only
+/// error is a refused allocation.
 pub fn sorted_headings<'a>(
     memory: Memory,
     headings: &'a [String<Memory>],
@@ -71,7 +71,7 @@ pub fn sorted_headings<'a>(
     sorted(memory, headings)
 }
 
-/// Of sorted headings those that are a name.
+/// Returns the part of the sorted headings that is equal to a name.
 pub fn with_name<'s, 'a>(sorted: &'s [Heading<'a>], name: &str) -> &'s [Heading<'a>]
     requires { AreRising sorted.now }
     ensures { result.now ≡ filter (λ h. same_text name.now h.name.now) sorted.now }
@@ -83,7 +83,7 @@ pub fn with_name<'s, 'a>(sorted: &'s [Heading<'a>], name: &str) -> &'s [Heading<
     named
 }
 
-/// The place, where there is exactly one heading.
+/// Returns the index if there is exactly one heading.
 pub fn only_heading(named: &[Heading<'_>]) -> Option<usize>
     ensures { binding.only_place (map place_in named.now) ≡ or_first result }
 {

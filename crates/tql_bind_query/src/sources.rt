@@ -1,4 +1,4 @@
-//! A table reference with its table bound, and its name.
+//! Table references with their tables bound.
 ghost use Rattle.std.specs.Prelude.{◌≡◌, ◌<◌, ◌≤◌, ◌+◌, ◌^◌, All, IfOk, length};
 ghost use Rattle.tql_spec.specs.Binding as binding;
 ghost use Rattle.tql_spec.specs.Definition.{no_table};
@@ -18,7 +18,7 @@ use tql_catalog::table_def::TableDef;
 use tql_memory::Memory;
 use tql_syntax_tree::statement::RefTree;
 
-/// A table reference, and how it is known.
+/// A bound table reference, and its entry in the scope.
 #[derive(Clone, Copy)]
 pub struct BoundReference<'a> {
     pub reference: Reference,
@@ -33,9 +33,9 @@ fn known_start(written: RefTree<'_>) -> u32 {
     }
 }
 
-/// A table reference bound, known by this name, whose columns begin at this number. Faults: no table has the name;
-/// FOR SYSTEM_TIME on a table that is not system-versioned; a literal that reads as no moment. The only error is a
-/// refused growth.
+/// Binds a table reference that is known by this name and whose columns are numbered from `offset`. Faults: no table
+/// has the name; FOR SYSTEM_TIME on a table that is not system-versioned; a literal is no moment. The only error is a
+/// refused allocation.
 pub(crate) fn bound_source<'a>(
     memory: Memory,
     catalog: &'a Catalog,

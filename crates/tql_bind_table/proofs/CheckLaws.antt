@@ -1,4 +1,4 @@
--- Checks: the generated columns, the faults of each, and what is true where none is present.
+-- Checks: the generated columns, the faults of each check, and the properties of checks without a fault.
 use Rattle.std.specs.Prelude.{◌≡◌, refl, ℕ, suc, Bool, true, false, not, ◌&&◌, ◌||◌, ◌==◌, ◌≤◌, ◌++◌}
 use Rattle.std.specs.Prelude.{if◌then◌else◌, List, [], ◌∷◌, map, length, Option, Some, None, option_map, is_some, All}
 use Rattle.std.specs.List.{list_all}
@@ -31,7 +31,7 @@ use Rattle.tql_bind_table.proofs.NoFault.{front_none, behind_none, not_present, 
 
 -- ---- the generated columns
 
--- the number is there as that of a start, or as that of an end
+-- a number is present as that of a ROW START column, or as that of a ROW END column
 number_split : (g : Option Generated) (here : Bool) (k : ℕ) (either starts ends : List ℕ) (i : ℕ)
     → has_number i either ≡ has_number i starts || has_number i ends
     → has_number i ((if is_some g then k ∷ [] else []) ++ either)
@@ -62,13 +62,13 @@ numbers_same k (c ∷ cs) i =
     (numbers_where (λ d. is_row_start d.generated) (suc k) cs) (numbers_where (λ d. is_row_end d.generated) (suc k) cs)
     i (numbers_same (suc k) cs i)
 
--- the numbers of the generated columns tell which are generated
+-- the numbers of the generated columns decide which are generated
 pub generated_same : (cs : List ColumnTree) → (λ i. has_number i (generated_in cs)) ≡ is_generated_in cs
 generated_same cs = λ j i. numbers_same 0 cs i j
 
 -- ---- a check without a fault
 
--- where no column passes a test, none passes one that is harder to pass
+-- if no column passes a test, none passes a stricter one
 no_column : (p q : ℕ → Bool) → ((i : ℕ) → p i ≡ false → q i ≡ false) → (e : Expr) → uses_column p e ≡ false
     → uses_column q e ≡ false
 no_column p q harder (Literal v) h = refl
@@ -118,7 +118,7 @@ no_column_in p q harder (Or c d) h =
     let right = no_column_in p q harder d both.1 in
     λ j. left j || right j
 
--- checks without a fault can be those of the table, none of whose generated columns is another
+-- checks without a fault can be those of the table, if it has no other generated columns
 pub checks_right : (cs : List ColumnTree) (d : TableDef)
     → ((i : ℕ) → is_generated_in cs i ≡ false → is_generated d i ≡ false) → (scope : List Known)
     → (bs : List Condition) → (check_each (check_by (is_generated_in cs) scope) bs).faults ≡ []
@@ -138,7 +138,7 @@ checks_right cs d free scope (b ∷ bs) none =
 
 -- ---- the columns of periods
 
--- the number of a name is at most that of the names
+-- the number of a name is at most the number of names
 number_within : (names : List Name) (n : Name) → (column_number names n).value ≤ length names
 number_within names n = at (number_in n names) refl
   where
@@ -148,7 +148,7 @@ number_within names n = at (number_in n names) refl
         subst (λ (p : Option ℕ). (or_first p).value ≤ length names) (sym e)
         (let h = within n names i e in omega (arith, h))
 
--- the same of columns
+-- the same for columns
 column_within : (cs : List ColumnTree) (n : Name) (width : ℕ) → length cs ≡ width
     → (column_number (names_in cs) n).value ≤ width
 column_within cs n width e =
@@ -156,7 +156,7 @@ column_within cs n width e =
     let count : length (names_in cs) ≡ length cs = length-map cs (λ (c : ColumnTree). c.name) in
     omega (arith, h, count, e)
 
--- the application periods have their ends in a table of so many columns
+-- the ends of the application periods lie within a table of this width
 pub ends_within : (cs : List ColumnTree) (width : ℕ) → length cs ≡ width → (ps : List PeriodPart)
     (as' : List code.Application) → map application_of as' ≡ (check_each (application_in cs) ps).value
     → All (HasEnds width) as'
@@ -179,7 +179,7 @@ ends_within cs width e (p ∷ ps) (a ∷ as') is =
     tail_same : {A : Type 0} {x y : A} {xs ys : List A} → x ∷ xs ≡ y ∷ ys → xs ≡ ys
     tail_same h = cc
 
--- and so have the system periods
+-- so do those of the system periods
 pub systems_within : (cs : List ColumnTree) (width : ℕ) → length cs ≡ width → (ps : List PeriodPart)
     (ss : List code_system.System) → map system_of ss ≡ (check_each (system_in cs) ps).value
     → All (HasSystem width) ss
@@ -202,7 +202,7 @@ systems_within cs width e (p ∷ ps) (s ∷ ss) is =
     tail_same : {A : Type 0} {x y : A} {xs ys : List A} → x ∷ xs ≡ y ∷ ys → xs ≡ ys
     tail_same h = cc
 
--- the first of them
+-- so does the first of them
 pub first_within : (width : ℕ) (ss : List code_system.System) (o : Option code_system.System)
     → option_map system_of o ≡ first_of (map system_of ss) → All (HasSystem width) ss → ForSome o (HasSystem width)
 first_within width ss None is all = λ x e. absurd (cc)

@@ -1,4 +1,4 @@
--- The numbers at which names stand.
+-- The numbers of names in a list.
 use Rattle.std.specs.Prelude.{◌≡◌, refl, ℕ, suc, Bool, true, false, ◌||◌, ◌==◌, nat_lt, List, [], ◌∷◌, map, length}
 use Rattle.std.specs.Prelude.{Option, Some, None, slice_index_or, if◌then◌else◌, ◌<◌}
 use Rattle.std.proofs.Common.{ap, ◌∙◌, sym, arith, eqb-true}
@@ -23,7 +23,7 @@ next_some (Some j) i e = (j, (refl, the_same j i e))
 first_place : (i : ℕ) → Some 0 ≡ Some i → i ≡ 0
 first_place i e = cc
 
--- its number is that of a name
+-- its number is within the list
 pub within : (n : Name) (ms : List Name) (i : ℕ) → number_in n ms ≡ Some i → i < length ms
 within n [] i e = cc
 within n (m ∷ ms) i e = at (λ j. within n ms j) (same_text n m) e
@@ -37,7 +37,7 @@ within n (m ∷ ms) i e = at (λ j. within n ms j) (same_text n m) e
         let e : i ≡ suc k.0 = k.1.1 in
         omega (arith, l, e)
 
--- and it stands there
+-- the name is at its number
 pub name_at : (n : Name) (ms : List Name) (i : ℕ) → number_in n ms ≡ Some i → n ≡ slice_index_or ms i []
 name_at n [] i e = cc
 name_at n (m ∷ ms) i e = at (λ j. name_at n ms j) (same_text n m) refl e
@@ -64,7 +64,7 @@ apart n m ms i j e f h = cases (i == j) refl
         absurd (never (sym (same_text-self n) ∙ ap (same_text n) same ∙ h))
     cases false p = p
 
--- two numbers of which one is in the list differ
+-- two numbers differ if only one is in the list
 pub other_number : (i k : ℕ) (is : List ℕ) → has_number i is ≡ false → has_number k is ≡ true → (i == k) ≡ false
 other_number i k is out inside = cases (i == k) refl
   where
@@ -72,13 +72,13 @@ other_number i k is out inside = cases (i == k) refl
     cases true p = absurd (never (sym inside ∙ ap (λ j. has_number j is) (sym (eqb-true i k p)) ∙ out))
     cases false p = p
 
--- ---- the column of the name
+-- ---- the column of a name
 
 or_true : (b : Bool) → b || true ≡ true
 or_true true = refl
 or_true false = refl
 
--- takes no null, where the name is among those that take none
+-- the column takes no null if its name is among the implied ones
 pub required_at : (implied : List Name) (n : Name) (cs : List ColumnTree) (i : ℕ)
     → number_in n (names_in cs) ≡ Some i → has_name n implied ≡ true
     → slice_index_or (map (λ (c : definition.Column). c.required) (map (column implied) cs)) i false ≡ true

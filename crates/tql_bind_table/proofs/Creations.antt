@@ -1,4 +1,4 @@
--- A CREATE, by its parts.
+-- CREATE TABLE, from its parts.
 use Rattle.std.specs.Prelude.{◌≡◌, refl, ℕ, suc, Bool, true, false, not, ◌||◌, ◌==◌, nat_le, nat_lt, List, [], ◌∷◌}
 use Rattle.std.specs.Prelude.{◌++◌, map, length, Option, Some, None, is_some, if◌then◌else◌}
 use Rattle.std.specs.List.{flat_map, list_any, list_all}
@@ -59,7 +59,7 @@ reference_is : (defs : List TableDef) (es : List Element) (as' : List Applicatio
 reference_is defs es as' child n names None = refl
 reference_is defs es as' child n names (Some t) = refl
 
--- the references of a statement are those that are written
+-- the references of a statement are those of its reference parts
 pub references_are : (defs : List TableDef) (es : List Element) (as' : List Application) (cs : List Constraint)
     → references defs es as' cs ≡ flat_each (new.reference_in defs (written_in es) as') (reference_parts cs)
 references_are defs es as' [] = refl
@@ -70,7 +70,7 @@ references_are defs es as' (ForeignTree child n names ∷ cs) =
 references_are defs es as' (KeyTree b n ns p ∷ cs) = references_are defs es as' cs
 references_are defs es as' (CheckTree c ∷ cs) = references_are defs es as' cs
 
--- a check whose fault stands alone, or with its condition
+-- a check whose fault is added separately, or with its condition
 checked_alone : (c : Checked Cond) (wrong : Cond → Bool) (rest : Checked (List Cond))
     → (c >>= λ b. refuse_if (wrong b) FormNotAllowedHere >>= λ u. rest >>= λ bs. sound (b ∷ bs))
     ≡ ((c >>= λ b. unless (wrong b) FormNotAllowedHere b) >>= λ b. rest >>= λ bs. sound (b ∷ bs))
@@ -78,7 +78,7 @@ checked_alone c wrong rest =
     let made : List Refusal → Checked (List Cond) = λ fs. record { faults = fs; value = c.value ∷ rest.value } in
     ap made (sym (append_assoc c.faults (fault_if (wrong c.value) FormNotAllowedHere) (rest.faults ++ [])))
 
--- the checks of a statement are those that are written
+-- the checks of a statement are those of its check parts
 checks_are : (es : List Element) (scope : List Known) (cs : List Constraint)
     → checks es scope cs ≡ check_each (check_by (is_generated_in (columns_of es)) scope) (check_parts cs)
 checks_are es scope [] = refl
@@ -109,7 +109,7 @@ count_is (CheckTree c ∷ cs) = count_is cs
 
 -- ---- the whole
 
--- a table by its parts
+-- a table from its parts
 abbrev table : Name → List definition.Column → Option Application → Option System → List Key → List Reference
     → List Cond
     → TableDef
@@ -123,7 +123,7 @@ table n columns a s ks fs bs = record {
   checks = bs;
 }
 
--- the table, where these are its faults as a whole, its constraints and the names that take no null
+-- the table, from its faults as a whole, its constraints and the names that take no null
 abbrev create_by : Name → List Element → List Refusal → (List Application → Checked (List Key))
     → (List Application → Checked (List Reference)) → (List Known → Checked (List Cond)) → List Name
     → Checked TableDef
@@ -137,7 +137,7 @@ create_by n es faults ks fs bs implied = do
   sound (table n (map (column implied) (columns_of es)) (first_of as') (first_of ss) k f b)
 
 module _ (defs : List TableDef) (n : Name) (es : List Element) (versioned : Bool) where
-  -- the faults of the table as a whole, where it has so many primary keys
+  -- the faults of the table as a whole, with this number of primary keys
   abbrev whole : ℕ → List Refusal
   whole count =
       fault_if (is_some (place_of n defs)) TableUnknownOrAlreadyThere
@@ -151,7 +151,7 @@ module _ (defs : List TableDef) (n : Name) (es : List Element) (versioned : Bool
       ++ fault_if (nat_lt 1 count) FormNotAllowedHere
       ++ fault_if (nat_le 1000 (length defs)) TooManyTablesOrReaders
 
-  -- the definition of what is written
+  -- the definition from the parts
   by_parts : create defs n es versioned ≡ create_in defs n (written_in es) (checks_in es) versioned
   by_parts = λ j. create_by n es (whole (count_is (constraints_of es) j))
       (λ as'. keys_are es as' (constraints_of es) j)
@@ -159,9 +159,9 @@ module _ (defs : List TableDef) (n : Name) (es : List Element) (versioned : Bool
       (λ scope. checks_are es scope (constraints_of es) j)
       (flat_map part_names (application_parts es) ++ names_are (constraints_of es) j)
 
--- ---- what is read of the statement
+-- ---- the draft of the statement
 
--- the name and all that is written are those of the statement
+-- the name and all parts are those of the statement
 pub record IsDraft (c : CreateTree) (n : Name) (w : Written) : Type 0 where
   pub name : n ≡ name_of c.table
   pub columns : w.columns ≡ columns_of (elements_in c)
@@ -188,7 +188,7 @@ created defs c n w is =
     (λ j. create_in defs (is.name j) (written_same c n w is j) (checks_in (elements_in c)) c.is_versioned)
     ∙ sym (by_parts defs (name_of c.table) (elements_in c) c.is_versioned)
 
--- the faults of the draft, gathered part by part, are those of the definition
+-- the faults of the draft, collected part by part, are those of the definition
 pub draft_gathered : (defs : List TableDef) (n : Name) (w : Written) (cs : List Condition) (v : Bool)
     (old m1 m2 m3 m4 m5 now : Option Refusal) (as' : List Application) (ss : List System) (ks : List Key)
     (fs : List Reference) (bs : List Cond)
@@ -227,7 +227,7 @@ draft_gathered defs n w cs v old m1 m2 m3 m4 m5 now as' ss ks fs bs whole first 
     bound (refuse_for (whole_in defs n w v))
     (λ u. check_each (application_in w.columns) w.applications >>= periods) old m1 now tt d whole from1
 
--- and those of the statement
+-- so are those of the statement
 pub bind_gathered : (defs : List TableDef) (c : CreateTree) (n : Name) (w : Written) (old now : Option Refusal)
     (d : TableDef) → IsDraft c n w
     → Gathers (create_in defs n w (checks_in (elements_in c)) c.is_versioned) old now d

@@ -1,4 +1,4 @@
--- What is written of a table and shows no fault can be its parts.
+-- Parts without a fault can be the parts of a table.
 use Rattle.std.specs.Prelude.{◌≡◌, refl, ℕ, suc, Bool, true, false, not, ◌&&◌, ◌||◌, ◌==◌, nat_le, nat_lt, IsTrue}
 use Rattle.std.specs.Prelude.{List, [], ◌∷◌, ◌++◌, map, length, Some, None, is_some, slice_index_or}
 use Rattle.std.specs.Prelude.{if◌then◌else◌, ◌<◌}
@@ -56,7 +56,7 @@ required_count implied cs =
 
 -- ---- a period without a fault
 
--- what is true of its columns
+-- the properties of its columns
 record IsSound (names : List Name) (p : PeriodPart) (misfit wrong : ℕ → ℕ → Bool) (s e : ℕ) : Type 0 where
   start : number_in p.start names ≡ Some s
   end : number_in p.end names ≡ Some e
@@ -82,7 +82,7 @@ sound_parts names p misfit wrong none =
       right = not_present (wrong s e) FormNotAllowedHere (front_none (fault_if (wrong s e) FormNotAllowedHere) [] last);
     }
 
--- the first of several checks has no fault where they have none
+-- if several checks have no fault, the first has none
 first_each : {A B : Type 0} (f : A → Checked B) (x : A) (xs : List A) → (check_each f (x ∷ xs)).faults ≡ []
     → (f x).faults ≡ []
 first_each f x xs none = front_none (f x).faults _ none
@@ -122,7 +122,7 @@ system_right implied cs (p ∷ ps) none =
     ap (λ (ks : List Kind). is_system_period ks (Some (record { start = s; end = e }))) (kinds_same implied cs)
     ∙ (λ i. (from i && first i) && (to i && second i) && not (differ i))
 
--- a column that is not generated is none of its columns
+-- a column that is not generated is not one of its columns
 not_of_system : (cs : List ColumnTree) (ps : List PeriodPart) → (check_each (system_in cs) ps).faults ≡ [] → (k : ℕ)
     → is_generated_in cs k ≡ false
     → has_number k (generated_columns (first_of (check_each (system_in cs) ps).value)) ≡ false
@@ -203,7 +203,7 @@ no_many n e = false_true (sym e ∙ many n)
     false_true : false ≡ true → ⊥
     false_true h = cc
 
--- the name of the first application period is that of all where they are not several
+-- if there is at most one application period, its name is the only period name
 names_first : (cs : List ColumnTree) (as' : List NewApplication) → several (map application_part as') ≡ false
     → application_name (first_of (check_each (application_in cs) (map application_part as')).value) ≡
     names_of_periods (map application_part as')
@@ -221,7 +221,7 @@ named_first cs ps as' e one =
 
 -- ---- the table
 
--- what is true of a table without a fault as a whole
+-- the properties of a table without a fault as a whole
 record IsWhole (w : Written) : Type 0 where
   once : repeats (names_in w.columns ++ names_of_periods w.applications) ≡ false
   one : several w.applications ≡ false
@@ -254,7 +254,7 @@ whole_right defs n w v none =
           (not_present many_periods FormNotAllowedHere (behind_none (f1 ++ f2 ++ f3 ++ f4) f5 n5))).0;
     }
 
--- a column that is there and not generated is one of the definition that users assign
+-- a column within the table that is not generated can be assigned by users
 open_at : (implied : List Name) (cs : List ColumnTree) (qs : List PeriodPart)
     → (check_each (system_in cs) qs).faults ≡ [] → (i : ℕ) → i < length (names_in cs)
     → is_generated_in cs i ≡ false
@@ -267,12 +267,12 @@ open_at implied cs qs none i h free =
     let outside = not_of_system cs qs none i free in
     λ j. inside j && not (outside j)
 
--- what is true of the table: its columns and periods can be those of one, and so can its constraints
+-- the table is possible: its columns, periods and constraints can be those of one
 pub record CanStand (t : TableDef) : Type 0 where
   pub definable : IsTrue (is_definable t.columns t.system t.application)
   pub constrained : IsTrue (are_constraints t t.keys t.references t.checks)
 
--- it is true where no fault is present
+-- this is so if there is no fault
 pub can_stand : (defs : List TableDef) (n : Name) (w : Written) (cs : List Condition) (as' : List NewApplication)
     → w.applications ≡ map application_part as' → (v : Bool) (t : TableDef)
     → first (create_in defs n w cs v).faults ≡ None → t ≡ (create_in defs n w cs v).value → CanStand t

@@ -1,4 +1,4 @@
--- Keys and references without a fault list columns that users assign, each once.
+-- Keys and references without a fault list columns that users can assign, each once.
 use Rattle.std.specs.Prelude.{◌≡◌, refl, ℕ, Bool, true, false, not, ◌&&◌, ◌||◌, nat_lt, List, [], ◌∷◌, ◌++◌}
 use Rattle.std.specs.Prelude.{length, Option, Some, None, is_some, is_none, if◌then◌else◌, ◌<◌}
 use Rattle.std.specs.List.{list_any, list_all}
@@ -23,7 +23,7 @@ use Rattle.tql_bind_table.proofs.NoFault.{front_none, behind_none, never, not_pr
 
 -- ---- numbers
 
--- a number that none of these names has is not among theirs
+-- a name that is not among others has a number that is not among theirs
 not_among : (names : List Name) (n : Name) (i : ℕ) → number_in n names ≡ Some i → (ms : List Name)
     → (check_each (column_number names) ms).faults ≡ [] → has_name n ms ≡ false
     → has_number i (check_each (column_number names) ms).value ≡ false
@@ -37,7 +37,7 @@ not_among names n i e (m ∷ ms) none h =
     let later = not_among names n i e ms rest both.1 in
     λ j. here j || later j
 
--- names that do not repeat have numbers that do not
+-- names without repeats have numbers without repeats
 numbers_once : (names ns : List Name) → (check_each (column_number names) ns).faults ≡ [] → repeats ns ≡ false
     → numbers_repeat (check_each (column_number names) ns).value ≡ false
 numbers_once names [] none h = refl
@@ -50,7 +50,7 @@ numbers_once names (n ∷ ns) none h =
     let later = numbers_once names ns rest both.1 in
     λ j. here j || later j
 
--- each number passes the test that those pass which stand among the names and are not generated
+-- numbers of columns that are not generated pass a test that all such columns pass
 numbers_pass : (names ns : List Name) (gen p : ℕ → Bool)
     → ((i : ℕ) → i < length names → gen i ≡ false → p i ≡ true)
     → (check_each (column_number names) ns).faults ≡ []
@@ -76,7 +76,7 @@ is_assigned d i = nat_lt i (length d.columns) && not (is_generated d i)
 module _ (w : Written) (d : TableDef)
     (pass_at : (i : ℕ) → i < length (names_in w.columns) → is_generated_in w.columns i ≡ false
     → is_assigned d i ≡ true) where
-  -- a list without a fault lists columns that users assign
+  -- a list without a fault lists columns that users can assign
   listed_right : (as' : List Application) (l : ListPart) → (listed_in w as' l).faults ≡ []
       → are_assignable d (listed_in w as' l).value ≡ true
   listed_right as' l none =
@@ -129,7 +129,7 @@ all_append p (x ∷ xs) ys e f =
     and_both true b h = (refl, h)
     and_both false b h = cc
 
--- what each gives passes a test, where that of each one does
+-- if the values of each element pass a test, all values do
 pub flat_right : {A B : Type 0} (f : A → Checked (List B)) (p : B → Bool)
     → ((x : A) → (f x).faults ≡ [] → list_all p (f x).value ≡ true) → (xs : List A) → (flat_each f xs).faults ≡ []
     → list_all p (flat_each f xs).value ≡ true
@@ -188,7 +188,7 @@ parent_there defs w as' f (Some t) at none =
     ap (has_key_at defs made.value) at ∙ ap (λ (b : Bool). is_declared_key parent b ps.value) same ∙ key in
     λ j. here j && true
 
--- each reference without a fault is to a key of a table that is there
+-- each reference without a fault is to a key of an existing table
 pub parents_right : (defs : List TableDef) (w : Written) (as' : List Application) (fs : List ReferencePart)
     → (flat_each (reference_in defs w as') fs).faults ≡ []
     → list_all (can_have defs) (flat_each (reference_in defs w as') fs).value ≡ true

@@ -1,4 +1,4 @@
--- What is known where no fault is present.
+-- The properties of a result without a fault.
 use Rattle.std.specs.Prelude.{◌≡◌, refl, ℕ, Bool, true, false, not, ◌||◌, List, [], ◌∷◌, ◌++◌, Option, Some, None}
 use Rattle.tql_spec.specs.Refusal.{Refusal, NameUnknownAmbiguousOrRepeated, fault_if, first}
 use Rattle.tql_spec.specs.Creation.{or_first}

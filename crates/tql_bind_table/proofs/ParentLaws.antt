@@ -1,4 +1,4 @@
--- A CREATE without a fault references keys of tables that are there.
+-- A CREATE TABLE without a fault references keys of existing tables.
 use Rattle.std.specs.Prelude.{◌≡◌, List, [], Bool, IsTrue, None}
 use Rattle.std.specs.List.{list_all}
 use Rattle.std.proofs.Common.{subst, sym}
@@ -14,7 +14,7 @@ use Rattle.tql_bind_table.proofs.NoFault.{nothing_first, front_none, behind_none
 use Rattle.tql_bind_table.proofs.Listings.{parents_right}
 use Rattle.tql_bind_table.proofs.Creations.{references_are}
 
--- what a catalog wants of the references of a table that it is given
+-- what a catalog requires of the references of a new table
 pub parents_there : (defs : List TableDef) (n : Name) (es : List Element) (versioned : Bool)
     → first (create defs n es versioned).faults ≡ None
     → IsTrue (list_all (can_have defs) (create defs n es versioned).value.references)

@@ -1,4 +1,4 @@
--- The faults of a reference, gathered part by part.
+-- The faults of a reference, collected part by part.
 use Rattle.std.specs.Prelude.{◌≡◌, refl, ℕ, Bool, not, ◌||◌, List, Option, Some, None, is_some, option_map}
 use Rattle.std.proofs.Common.{subst, sym}
 use Rattle.tql_spec.specs.Words.{listed}
@@ -12,7 +12,7 @@ use Rattle.tql_bind_expr.proofs.Gathering.{bound, sound_here, unless_asked}
 use Rattle.tql_bind_draft.specs.Drafts.{Written, ReferencePart, kinds_in, listed_in}
 use Rattle.tql_bind_table.specs.NewTables.{has_one_period, reference_to}
 
--- a period is there where one is written
+-- a period is present exactly if one is written
 pub some_same : {A B : Type 0} (g : A → B) (o : Option A) → is_some o ≡ is_some (option_map g o)
 some_same g None = refl
 some_same g (Some x) = refl

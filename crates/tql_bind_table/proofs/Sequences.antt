@@ -1,4 +1,4 @@
--- Parts that are bound one after the other, a list of each.
+-- Parts that are bound in order, with a list of values each.
 use Rattle.std.proofs.Common.{◌≡◌, ℕ, ◌+◌, ◌<◌, ◌≤◌, List, [], ◌∷◌, ◌++◌, length, map, drop, get_or, sym, subst}
 use Rattle.std.proofs.Common.{ap, ◌∙◌, append-nil, append_assoc}
 use Rattle.std.specs.Prelude.{Option}
@@ -9,7 +9,7 @@ use Rattle.tql_bind_expr.specs.Gathered.{after, Gathers}
 use Rattle.tql_bind_expr.proofs.Gathering.{after_nil, after_append}
 use Rattle.tql_bind_table.specs.NewTables.{flat_each}
 
--- the elements checked so far, and those that are left, give what all give
+-- the elements checked so far and the remaining ones give what all give
 pub record FlatLeads {A B : Type 0} (f : A
     → Checked (List B)) (all : List A) (old : Option Refusal) (bound : List B) (left : List A) (now : Option Refusal)
     : Type 0 where
@@ -33,7 +33,7 @@ flat_on {A} {B} f all old bound x left mid now ys l g =
           ∙ ap (λ (es : List Refusal). after mid ((f x).faults ++ es)) (sym more) ∙ l.least;
     }
 
--- the element that is next is checked, and what it gives is added
+-- the next element is checked, and its values added
 pub flat_item : {X Y A B : Type 0} (f : A → Checked (List B)) (g : X → A) (h : Y
     → B) (all : List A) (old mid now : Option Refusal) (xs : List X) (i : ℕ) (x : X) (ys zs : List Y) (more : List B)
     → i < length xs → x ≡ get_or xs i x → map h zs ≡ map h ys ++ more
@@ -46,7 +46,7 @@ flat_item {X} {Y} {A} {B} f g h all old mid now xs i x ys zs more within is adde
     subst (λ (bs : List B). FlatLeads f all old bs (map g (drop (i + 1) xs)) now) (sym added)
     (flat_on f all old (map h ys) (g x) (map g (drop (i + 1) xs)) mid now more here checked)
 
--- no element is left
+-- no element remains
 pub flat_done : {X Y A B : Type 0} (f : A → Checked (List B)) (g : X → A) (h : Y
     → B) (all : List A) (old now : Option Refusal) (xs : List X) (i : ℕ) (ys : List Y)
     → length xs ≤ i → FlatLeads f all old (map h ys) (map g (drop i xs)) now

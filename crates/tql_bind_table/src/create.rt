@@ -1,4 +1,4 @@
-//! New tables: the faults that a CREATE TABLE shows, and the definition that it gives.
+//! New tables: the faults of a CREATE TABLE, and the definition that it gives.
 ghost use Rattle.std.specs.Prelude.{◌≡◌, ◌||◌, ◌==◌, IsTrue, map, not, IfOk, string_bytes, length, nat_le, is_some};
 ghost use Rattle.std.specs.Prelude.{if◌then◌else◌, nat_lt};
 ghost use Rattle.tql_spec.specs.Binding.{bind};
@@ -40,8 +40,8 @@ use tql_memory::Memory;
 use tql_syntax_tree::statement::CreateTree;
 use tql_value::refusal::Refusal;
 
-/// The columns, periods, keys, references and checks of a new table, by the numbers of their columns, in the order of
-/// the statement.
+/// The columns, periods, keys, references and checks of a new table, in the order of the statement. Columns are given
+/// by number.
 pub struct Parts {
     pub columns: Vec<Column, Memory>,
     pub applications: Vec<Application, Memory>,
@@ -75,7 +75,7 @@ impl Parts {
     ghost use Rattle.tql_catalog.specs.Defined.{are_constraints, is_definable};
     ghost use Rattle.tql_bind_table.specs.NewTables.{table_of};
 
-    /// The definition, where these can be the parts of a table. The only error is a refused growth.
+    /// Returns the definition that has these parts. The only error is a refused allocation.
     fn definition(self, memory: Memory, name: String<Memory>) -> Result<TableDef, AllocError>
         requires definable { let t = table_of (string_bytes name) self in IsTrue
             (is_definable t.columns t.system t.application) }
@@ -98,21 +98,21 @@ impl Parts {
     }
 }
 
-/// Whether there are several periods of one sort.
+/// Whether there are several application periods or several system periods.
 fn has_several(draft: &Draft<'_>) -> bool
     ensures { result ≡ (several (applications_in draft.now) || several (systems_in draft.now)) }
 {
     1 < draft.applications.len() || 1 < draft.systems.len()
 }
 
-/// Whether there are not as many system periods as WITH SYSTEM VERSIONING, or its absence, wants.
+/// Whether there is not exactly one system period with WITH SYSTEM VERSIONING, or there is one without it.
 fn has_wrong_systems(draft: &Draft<'_>, is_versioned: bool) -> bool
     ensures { result ≡ not (length (systems_in draft.now) == (if is_versioned then 1 else 0)) }
 {
     draft.systems.len() != usize::from(is_versioned)
 }
 
-/// Whether there are not as many columns of ROW START, or of ROW END, as system periods.
+/// Whether the number of ROW START columns, or of ROW END columns, differs from the number of system periods.
 fn has_wrong_ends(draft: &Draft<'_>) -> bool
     ensures { result ≡ (not (length (starts_in (columns_in draft.now)) == length (systems_in draft.now))
         || not (length (stops_in (columns_in draft.now)) == length (systems_in draft.now))) }
@@ -128,7 +128,7 @@ fn has_several_primaries(draft: &Draft<'_>) -> bool
     1 < primary_count(&draft.keys)
 }
 
-/// Returns what the fault of several periods of one sort is about: the second of them.
+/// Returns the cause and place of the fault that there are several periods of one sort: the second of them.
 fn second_period(draft: &Draft<'_>) -> About {
     if let Some(period) = draft.applications.get(1) {
         return About::at(Cause::SecondPeriod, period.name.start);
@@ -139,7 +139,7 @@ fn second_period(draft: &Draft<'_>) -> About {
     }
 }
 
-/// Returns what the fault of a table that is versioned and has no system period, or the reverse, is about.
+/// Returns the cause and place of the fault that a versioned table has no system period, or the reverse.
 fn wrong_systems(is_versioned: bool, start: u32) -> About {
     let cause = if is_versioned {
         Cause::NoSystemPeriod
@@ -149,7 +149,7 @@ fn wrong_systems(is_versioned: bool, start: u32) -> About {
     About::at(cause, start)
 }
 
-/// Returns what the fault of too many generated columns, or too few, is about.
+/// Returns the cause and place of the fault that there are too many or too few generated columns.
 fn wrong_generated(draft: &Draft<'_>, start: u32) -> About {
     About::at(Cause::WrongGenerated, start).counts(
         start_count(&draft.columns),
@@ -157,7 +157,7 @@ fn wrong_generated(draft: &Draft<'_>, start: u32) -> About {
     )
 }
 
-/// Returns what the fault of several primary keys is about: the second of them.
+/// Returns the cause and place of the fault that there are several primary keys: the second of them.
 fn second_primary(keys: &[NewKey]) -> About {
     let mut is_seen = false;
     for key in keys {
@@ -169,7 +169,7 @@ fn second_primary(keys: &[NewKey]) -> About {
     About::unknown()
 }
 
-/// Returns what the fault of a repeated name is about.
+/// Returns the cause and place of the fault that a name is repeated.
 fn about_word(repeated: Option<&Word>) -> About {
     match repeated {
         Some(word) => About::at(Cause::Repeated, word.start),
@@ -177,7 +177,7 @@ fn about_word(repeated: Option<&Word>) -> About {
     }
 }
 
-/// The faults of the table as a whole.
+/// Adds the faults of the table as a whole.
 fn whole_faults(
     tables: &Catalog,
     name: &str,
@@ -238,8 +238,8 @@ fn whole_faults(
     );
 }
 
-/// The column of the definition: it takes no null where it is NOT NULL or a column of an application period or of a
-/// primary key.
+/// Returns the column of the definition. It takes no null if it is NOT NULL, or is a column of an application period or
+/// of a primary key.
 fn definition_column(
     memory: Memory,
     column: &NewColumn<'_>,
@@ -259,7 +259,7 @@ fn definition_column(
     })
 }
 
-/// The columns of the definition.
+/// Returns the columns of the definition.
 fn definitions(
     memory: Memory,
     columns: &[NewColumn<'_>],
@@ -278,7 +278,7 @@ fn definitions(
     Ok(definitions)
 }
 
-/// The columns, periods, keys, references and checks of a new table, with every fault of its definition.
+/// Binds the columns, periods, keys, references and checks of a new table. Adds every fault of its definition.
 fn parts_of(
     memory: Memory,
     tables: &Catalog,
@@ -331,17 +331,22 @@ fn parts_of(
     })
 }
 
-/// The definition that a CREATE TABLE gives. Refused are, the first of them: a table of that name is there, or the
-/// parent of a reference is not; a name that stands twice among those of the columns and of the application periods, or
-/// in the list of a key or of a reference, and a column or a period unknown; a length or a precision that is not
-/// allowed, columns of an application period that are not both DATE and not both TIMESTAMP, a column of the system
-/// period that is no TIMESTAMP, or two sides of a reference whose types differ; a form not allowed (no column that a
-/// user can assign, several application periods, system periods or primary keys, a period that names one column twice,
-/// an application period, a key or a reference that names a generated column, a key or a reference that names a column
-/// of its own period, a reference that names a period on one side alone or columns that are no key of its parent, a
-/// CHECK with an aggregate, a generated column or the system period, a system period without WITH SYSTEM VERSIONING or
-/// the reverse, generated columns other than one ROW START and one ROW END that the system period names in that order);
-/// a thousand tables; and what the condition of a CHECK shows. Where memory runs out, that is the refusal.
+/// Returns the definition that a CREATE TABLE gives. Refused for memory, or for the first of these faults:
+///
+/// - A table of that name exists, or the parent of a reference does not.
+/// - A name occurs twice among the columns and application periods, or in the list of a key or a reference. A column or
+///   a period is unknown.
+/// - A length or a precision is not allowed. The columns of an application period are neither both DATE nor both
+///   TIMESTAMP, or a column of the system period is not TIMESTAMP. The types of the two sides of a reference differ.
+/// - A form is not allowed. No column can be assigned by a user. There are several application periods, system periods
+///   or primary keys. A period names one column twice. An application period, a key or a reference names a generated
+///   column. A key or a reference names a column of its own period. A reference names a period on one side only, or
+///   columns that are no key of its parent. A CHECK contains an aggregate, a generated column or the system period.
+///   There is a system period without WITH SYSTEM VERSIONING, or the reverse. The generated columns are not one ROW
+///   START and one ROW END, named by the system period in that order.
+/// - There are already 1,000 tables.
+///
+/// The condition of a CHECK also has its own faults.
 pub fn new_table(
     memory: Memory,
     tables: &Catalog,
@@ -359,8 +364,8 @@ pub fn new_table(
     }
 }
 
-/// Returns the cause that no table has the name at some place as the cause that a table references itself, if it is its
-/// own name.
+/// Replaces the cause that no table has a name by the cause that a table references itself, if the name is the new
+/// table's own.
 fn or_own_parent(about: About, name: &str, draft: &Draft<'_>) -> About {
     if about.cause == Cause::NoTable {
         for reference in &draft.references {
@@ -372,8 +377,8 @@ fn or_own_parent(about: About, name: &str, draft: &Draft<'_>) -> About {
     about
 }
 
-/// Returns what the first fault of a CREATE TABLE is about. Without a fault the cause is not known. The only error is
-/// a refused allocation.
+/// Returns the cause and place of the first fault of a CREATE TABLE. Without a fault, the cause is unknown. The only
+/// error is a refused allocation.
 pub fn about_table(
     memory: Memory,
     tables: &Catalog,

@@ -1,4 +1,4 @@
-//! New tables: from the tree of a CREATE TABLE to the definition that it gives, or its first fault.
+//! Binding of CREATE TABLE: from the syntax tree to the definition that it gives, or its first fault.
 #![tactic(auto)]
 
 mod checks;

@@ -1,4 +1,4 @@
-//! The table that a reference is to: its columns, their kinds, and its application period.
+//! The parent table of a reference: its columns, their kinds, and its application period.
 ghost use Rattle.std.specs.Prelude.{◌≡◌, ◌||◌, IfOk, map, not, is_some, slice_index_or, option_map};
 ghost use Rattle.tql_spec.specs.Creation as spec;
 ghost use Rattle.tql_spec.specs.Creation.{names_of, kinds_of, kinds_at, application_name, application_kind};
@@ -26,7 +26,7 @@ use tql_memory::Memory;
 use tql_value::refusal::Refusal;
 use tql_value::value::Kind;
 
-/// The number of the column of this name.
+/// Returns the number of the column of this name.
 fn column_place(definition: &TableDef, name: &str) -> Option<usize>
     ensures { result ≡ spec.number_in name.now (names_of definition.now) }
 {
@@ -36,7 +36,7 @@ fn column_place(definition: &TableDef, name: &str) -> Option<usize>
         .position(|column| column.is_named(name))
 }
 
-/// The numbers of the columns of these names. A fault for each that is no column's.
+/// Returns the numbers of the columns of these names. Adds a fault for each name that no column has.
 fn listed_columns(
     memory: Memory,
     definition: &TableDef,
@@ -57,7 +57,7 @@ fn listed_columns(
     Ok(numbers)
 }
 
-/// The numbers of the columns of these names. A fault where one is no column's, and where one stands twice.
+/// Returns the numbers of the columns of these names. Adds a fault if no column has a name, or a name is repeated.
 #[tactic(auto, using(tql_bind_expr::proofs::Gathering::gathering))]
 pub fn parent_columns(
     memory: Memory,
@@ -74,7 +74,7 @@ pub fn parent_columns(
     Ok(numbers)
 }
 
-/// Whether this is the name of the application period.
+/// Whether the application period has this name.
 fn is_period_of(definition: &TableDef, name: &str) -> bool
     ensures { result ≡ spec.has_name name.now (application_name definition.now.application) }
 {
@@ -84,7 +84,7 @@ fn is_period_of(definition: &TableDef, name: &str) -> bool
     }
 }
 
-/// A fault where the list names a period that is not the application period of the table.
+/// Adds a fault if the list names a period that is not the application period of the table.
 #[tactic(auto, using(tql_bind_expr::proofs::Gathering::gathering, tql_bind_draft::proofs::ListLaws::one_sought))]
 pub fn seek_period(definition: &TableDef, list: &NewList, faults: &mut Faults)
     ensures { faults.new ≡ after faults.old
@@ -100,7 +100,7 @@ pub fn seek_period(definition: &TableDef, list: &NewList, faults: &mut Faults)
     }
 }
 
-/// The kind of the column with this number.
+/// Returns the kind of the column with this number, or integer if there is none.
 fn column_kind(definition: &TableDef, number: usize) -> Kind
     ensures { plain_kind result ≡ slice_index_or (kinds_of definition.now) number Ints }
 {
@@ -110,7 +110,7 @@ fn column_kind(definition: &TableDef, number: usize) -> Kind
     }
 }
 
-/// Whether a column of the new table and a column of its parent are of two kinds.
+/// Whether a column of the new table and a column of its parent have different kinds.
 fn is_other_kind(
     columns: &[NewColumn<'_>],
     number: usize,
@@ -123,7 +123,7 @@ fn is_other_kind(
     kind_at(columns, number) != column_kind(definition, other)
 }
 
-/// Whether two lists of columns, of the new table and of its parent, differ in length or in a kind.
+/// Whether a column list of the new table and one of its parent differ in length or in a kind.
 #[tactic(auto, using(crate::proofs::KindLaws::rest_differs))]
 pub fn kinds_differ(
     columns: &[NewColumn<'_>],
@@ -147,7 +147,7 @@ pub fn kinds_differ(
     !left.is_empty()
 }
 
-/// Returns what the fault of two lists of columns that differ in length, or else in a type, is about.
+/// Returns the cause and place of the fault that two column lists differ in length, or else in a type.
 pub fn differing(
     draft: &Draft<'_>,
     reference: &NewReference,
@@ -174,7 +174,7 @@ pub fn differing(
     About::unknown()
 }
 
-/// Returns the byte offset of a word, or 0 where there is none.
+/// Returns the byte offset of a word, or 0 if there is none.
 fn word_start(word: &Option<Word>) -> u32 {
     match word {
         Some(word) => word.start,
@@ -182,15 +182,15 @@ fn word_start(word: &Option<Word>) -> u32 {
     }
 }
 
-/// Returns what the fault of two periods whose points are of different types is about.
+/// Returns the cause and place of the fault that the points of two periods have different types.
 pub fn points_of(reference: &NewReference) -> About {
     About::at(Cause::PeriodsDiffer, word_start(&reference.child.period)).and(word_start(
         &reference.named.period,
     ))
 }
 
-/// Returns what the fault of a reference is about that names a period on one side alone, or else is to no key of the
-/// table of this number.
+/// Returns the cause and place of a wrong reference: it names a period on one side only, or else no key of the table
+/// with this number.
 pub fn wrong_reference(reference: &NewReference, table: usize) -> About {
     if is_half(reference) {
         About::at(Cause::HalfPeriod, reference.child.start())
@@ -201,7 +201,7 @@ pub fn wrong_reference(reference: &NewReference, table: usize) -> About {
     }
 }
 
-/// Whether one of two periods is missing, or both are there and of two kinds of points.
+/// Whether one of two periods is missing, or their points have different kinds.
 fn points_differ(
     columns: &[NewColumn<'_>],
     period: Option<&Application>,
@@ -221,7 +221,7 @@ fn points_differ(
     }
 }
 
-/// Whether both sides of a reference name a period, and their kinds of points differ.
+/// Whether both sides of a reference name a period, and the kinds of their points differ.
 pub fn periods_differ(
     draft: &Draft<'_>,
     applications: &[Application],
@@ -244,7 +244,7 @@ pub fn periods_differ(
     }
 }
 
-/// Whether one side of a reference names a period and the other none.
+/// Whether exactly one side of a reference names a period.
 fn is_half(reference: &NewReference) -> bool
     ensures { result ≡ has_one_period (reference_part reference.now) }
 {
@@ -254,7 +254,7 @@ fn is_half(reference: &NewReference) -> bool
     }
 }
 
-/// Whether one side of a reference names a period and the other none, or it is to no key of its parent.
+/// Whether exactly one side of a reference names a period, or its columns are no key of its parent.
 pub fn is_wrong_reference(
     reference: &NewReference,
     definition: &TableDef,

@@ -1,4 +1,4 @@
-//! The references of a new table to keys of tables that are there.
+//! The references of a new table to keys of existing tables.
 ghost use Rattle.std.specs.Prelude.{◌≡◌, ◌++◌, IfOk, OnOk, map, option_map};
 ghost use Rattle.tql_spec.specs.Words.{listed};
 ghost use Rattle.tql_catalog.specs.Definitions as catalog;
@@ -24,10 +24,10 @@ use tql_catalog::table_def::TableDef;
 use tql_memory::Memory;
 use tql_value::refusal::Refusal;
 
-/// A reference to this table, whose number is `place`. A fault where a column or a period is unknown or a column stands
-/// twice, on either side; where a column is generated or of the period named; where the kinds of the two sides differ;
-/// and where one side alone names a period, or the columns there are no key of that sort. The only error is a refused
-/// growth.
+/// Binds a reference to this table, whose number is `place`. Adds a fault if, on either side, a column or a period is
+/// unknown or a column is repeated; if a column is generated or is one of the named period; if the kinds of the two
+/// sides differ; or if only one side names a period, or the parent's columns are no key of that sort. The only error is
+/// a refused allocation.
 fn bound_to(
     memory: Memory,
     draft: &Draft<'_>,
@@ -71,7 +71,8 @@ fn bound_to(
     })
 }
 
-/// A reference; none, and a fault, where no table of its parent's name is there. The only error is a refused growth.
+/// Binds a reference. Adds a fault and returns none if its parent table is not found. The only error is a refused
+/// allocation.
 #[tactic(auto, using(tql_bind_expr::proofs::Gathering::gathering))]
 fn bound_reference(
     memory: Memory,
@@ -111,7 +112,7 @@ fn bound_reference(
     }
 }
 
-/// Adds a reference, where there is one.
+/// Adds a reference, if there is one.
 fn add_reference(
     references: &mut Vec<Reference, Memory>,
     reference: Option<Reference>,
@@ -127,7 +128,7 @@ fn add_reference(
     Ok(())
 }
 
-/// The references, in the order of the statement. Faults: those of each. The only error is a refused growth.
+/// Binds the references, in the order of the statement. Faults: those of each. The only error is a refused allocation.
 pub fn bound_references(
     memory: Memory,
     tables: &Catalog,

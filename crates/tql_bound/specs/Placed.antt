@@ -17,12 +17,12 @@ ref_of (Inner r on) = r
 ref_of (Left r on) = r
 ref_of (Cross r) = r
 
--- each join has such a reference
+-- the reference of each join is placed
 abbrev pub AreJoinsPlaced : List TableDef → List Join → Type 0
 AreJoinsPlaced defs [] = Unit {0}
 AreJoinsPlaced defs (j ∷ js) = IsPlacedRef defs (ref_of j) × AreJoinsPlaced defs js
 
--- each chain has such references
+-- the references of each chain are placed
 abbrev pub AreChainsPlaced : List TableDef → List Chain → Type 0
 AreChainsPlaced defs [] = Unit {0}
 AreChainsPlaced defs (c ∷ cs) = (IsPlacedRef defs c.first × AreJoinsPlaced defs c.joins) × AreChainsPlaced defs cs

@@ -41,7 +41,7 @@ pub struct OrderKey {
 }
 
 /// SELECT. WHERE is evaluated on the cross product of the chains, and HAVING on the rows that pass it, or on their
-/// groups. The items are evaluated on those that pass HAVING, and have these headings.
+/// groups. The items, with these headings, are evaluated on the rows or groups that pass HAVING.
 pub struct BoundQuery {
     pub terms: Terms,
     pub chains: Vec<Chain, Memory>,

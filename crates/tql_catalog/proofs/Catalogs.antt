@@ -1,4 +1,4 @@
--- The place at which a table is found, and what stays true of the tables.
+-- The position of a table, and what stays true when tables are added or removed.
 use Rattle.std.proofs.Common.{◌≡◌, ◌≢◌, refl, ap, sym, ◌∙◌, ℕ, zero, suc, Bool, true, false, List, [], ◌∷◌, ◌++◌}
 use Rattle.std.proofs.Common.{Some, None, ◌+◌, ◌<◌, length, map, arith, length-append}
 use Rattle.std.specs.Prelude.{◌||◌, String, string_bytes, string_eq, position, if◌then◌else◌, is_some, nat_le, remove}
@@ -30,7 +30,7 @@ use Rattle.tql_catalog.specs.Tables.{have_parents}
 use Rattle.tql_catalog.specs.declared.catalog.Table.{Table}
 use Rattle.tql_catalog.proofs.Parents.{parents_more, parents_less}
 
--- whether this is the table of the name
+-- whether the table has this name
 abbrev is_called : Name → Table → Bool
 is_called n t = same_text n t.definition.name
 
@@ -55,7 +55,7 @@ placed : {X Y : Type 0} (t : X → Bool) (f : Y → X) (i : ℕ) (ys : List Y)
 placed t f i [] = refl
 placed t f i (y ∷ ys) = ap (λ o. if t (f y) then Some i else o) (placed t f (i + 1) ys)
 
--- the place of a name among those that tables are kept under is that of the definition
+-- the position of a name among the names of tables is that of the definition
 pub place_by_name : {Z : Type 0} (n : Name) (es : List (String Z × Table)) → IsByName es
     → position (λ k. bytes_eq n (string_bytes k)) (keys_of es) ≡ place_of n (definitions_of (values_of es))
 place_by_name n es by_name =
@@ -68,12 +68,12 @@ place_by_name n es by_name =
     ∙ placed (is_called n) (λ e. e.1) 0 es
     ∙ place_from n (values_of es)
 
--- the table that is kept at a place
+-- the table at a position
 pub value_at : {Z : Type 0} (es : List (String Z × Table)) (i : ℕ) (k : String Z) (t : Table)
     → Some (k, t) ≡ slice_get es i → slice_get (values_of es) i ≡ Some t
 value_at es i k t h = slice_get-map (λ e. e.1) es i ∙ ap (option_map (λ e. e.1)) (sym h)
 
--- the definition at a place is that of its table
+-- the definition at a position is that of its table
 pub definition_at : (tables : List Table) (i : ℕ) (t : Table) → slice_get tables i ≡ Some t
     → table_at (definitions_of tables) i ≡ t.definition
 definition_at [] i t e = cc
@@ -85,7 +85,7 @@ definition_at (x ∷ tables) (suc i) t e = definition_at tables i t e
 
 -- ---- references
 
--- whether a reference of the table names the one of this name
+-- whether the table has a reference to the table of this name
 abbrev pub refers : Name → Table → Bool
 refers n t = list_any (λ (f : Reference). same_text n f.parent) t.definition.references
 
@@ -102,7 +102,7 @@ no_fault true false h = absurd (cc)
 no_fault false true h = absurd (cc)
 no_fault false false h = (refl, refl)
 
--- no table has the name then
+-- without a fault, no table has the name
 pub not_placed : (defs : List TableDef) (n : Name) → first (creation_faults defs n) ≡ None
     → is_some (place_of n defs) ≡ false
 not_placed defs n f = (no_fault (is_some (place_of n defs)) (nat_le 1000 (length defs)) f).0
@@ -113,7 +113,7 @@ not_there true o h = absurd (cc)
 not_there false None h = (refl, refl)
 not_there false (Some i) h = absurd (cc)
 
--- where no place is found, no table has the name
+-- if no position is found, no table has the name
 none_called : (n : Name) (tables : List Table) → is_some (place_of n (definitions_of tables)) ≡ false
     → All (λ (t : Table). t.definition.name ≢ n) tables
 none_called n [] h = All-nil _
@@ -126,14 +126,14 @@ none_called n (t ∷ ts) h =
 fewer : (n : ℕ) → nat_le 1000 n ≡ false → n < 1000
 fewer n e = grind (arith, nat_tests)
 
--- where no fault is told of a name, there is none
+-- if no fault is reported for a name, there is none
 pub no_fault_told : (defs : List TableDef) (n m : Name) (o : Option Refusal) → m ≡ n → o ≡ None
     → option_map refusal_of o ≡ first (creation_faults defs m)
     → first (creation_faults defs n) ≡ None
 no_fault_told defs n m o e f told = ap (λ (k : Name). first (creation_faults defs k)) (sym e) ∙ sym told
     ∙ ap (option_map refusal_of) f
 
--- with a table that shows no fault, under a number that is free
+-- a table without a fault is added, under a free number
 pub one_more : (tables : List Table) (d : TableDef) (id : ℕ) → IsCatalog tables
     → first (creation_faults (definitions_of tables) d.name) ≡ None → IsFree id tables
     → list_all (can_have (definitions_of tables)) d.references ≡ true
@@ -157,7 +157,7 @@ nothing_there : {X : Type 0} (o : Option X) → is_some o ≡ false → o ≡ No
 nothing_there None h = refl
 nothing_there (Some x) h = absurd (cc)
 
--- where a table shows no fault, nothing is kept under its name, so that it goes behind the others
+-- no table has the name of a table without a fault, so it is added after the others
 pub put_last : {Z S : Type 0} (m : IndexMap (String Z) Table S) (k : String Z) (t : Table)
     → string_bytes k ≡ t.definition.name → IsByName m.entries
     → first (creation_faults (definitions_of (values m)) t.definition.name) ≡ None
@@ -170,7 +170,7 @@ put_last m k t named by_name f =
     (sym (some_index (string_eq k) m.entries) ∙ ap is_some (place_by_name (string_bytes k) m.entries by_name)
     ∙ ap (λ (n : Name). is_some (place_of n (definitions_of (values m)))) named ∙ none.0))
 
--- with a table behind the others
+-- one more table after the others
 pub tables_more : {Z : Type 0} (es : List (String Z × Table)) (k : String Z) (t : Table)
     → values_of (es ++ (k, t) ∷ []) ≡ values_of es ++ t ∷ []
 tables_more es k t = map-append (λ e. e.1) es ((k, t) ∷ [])
@@ -181,7 +181,7 @@ by_name_more es k t named by_name =
     map-append (λ e. string_bytes e.0) es ((k, t) ∷ []) ∙ (λ j. by_name j ++ named j ∷ [])
     ∙ sym (map-append (λ e. e.1.definition.name) es ((k, t) ∷ []))
 
--- ---- a table taken out
+-- ---- a table is removed
 
 pub one_less : (tables : List Table) (i : ℕ) → i < length tables
     → is_referenced (table_at (definitions_of tables) i).name (definitions_of tables) ≡ false → IsCatalog tables
@@ -195,7 +195,7 @@ one_less tables i l free c = record {
       (omega (arith, l, length-map tables (λ (t : Table). t.definition))) free c.parents;
 }
 
--- without the table at a place
+-- without the table at a position
 pub tables_less : {Z : Type 0} (es : List (String Z × Table)) (i : ℕ)
     → values_of (remove es i) ≡ remove (values_of es) i
 tables_less es i = map-remove (λ e. e.1) es i

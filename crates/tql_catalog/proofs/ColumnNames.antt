@@ -21,16 +21,16 @@ or_false : (b : Bool) → b || false ≡ b
 or_false true = refl
 or_false false = refl
 
--- whether this is the column of the name
+-- whether the column has this name
 abbrev pub is_called : Name → Column → Bool
 is_called n c = same_text n (string_bytes c.name)
 
--- a column has the name where one of the names is it
+-- a column has the name exactly if the name is among the names
 pub any_called : (n : Name) (columns : List Column) → list_any (is_called n) columns ≡ has_name n (names_in columns)
 any_called n [] = refl
 any_called n (c ∷ cs) = ap (λ (b : Bool). same_text n (string_bytes c.name) || b) (any_called n cs)
 
--- the kind of a column that is there
+-- the kind of an existing column
 kind_at : (columns : List Column) (i : ℕ) (c : Column) → i < length columns
     → plain_kind (slice_index_or columns i c).kind ≡ slice_index_or (kinds_in columns) i Ints
 kind_at [] i c h = absurd (omega (arith, h))
@@ -49,7 +49,7 @@ kind_count columns = length-map (map column_of columns) (λ (c : definition.Colu
 there : (i width count : ℕ) → i < count → width ≡ count → nat_lt i width ≡ true
 there i width count h e = grind (arith, nat_tests)
 
--- a column that is there holds moments where its kind is theirs
+-- an existing column holds moments exactly if its kind says so
 pub moment_there : (columns : List Column) (i : ℕ) (c : Column) → i < length columns → c ≡ slice_index_or columns i c
     → same_kind (plain_kind c.kind) Moments ≡ is_moment_at (kinds_in columns) i
 moment_there columns i c h e =
@@ -58,14 +58,14 @@ moment_there columns i c h e =
     ap (λ (k : Kind). same_kind k Moments) (kind_there columns i c h e)
     ∙ sym (ap (λ (b : Bool). b && same_kind (slice_index_or (kinds_in columns) i Ints) Moments) within)
 
--- whether the column that is there takes no null
+-- whether an existing column takes no null
 required_at : (columns : List Column) (i : ℕ) (c : Column) → i < length columns
     → (slice_index_or columns i c).is_required ≡ slice_index_or (required_in columns) i false
 required_at [] i c h = absurd (omega (arith, h))
 required_at (x ∷ xs) zero c h = refl
 required_at (x ∷ xs) (suc i) c h = required_at xs i c (omega (arith, h))
 
--- there are as many of these as columns
+-- there are as many of these values as columns
 pub required_count : (columns : List Column) → length (required_in columns) ≡ length columns
 required_count columns = length-map (map column_of columns) (λ (c : definition.Column). c.required)
     ∙ length-map columns column_of
@@ -78,13 +78,13 @@ required_there columns i c h e =
     ap (λ (k : Column). k.is_required) e ∙ required_at columns i c h
     ∙ sym (ap (λ (b : Bool). b && slice_index_or (required_in columns) i false) within)
 
--- two columns that are there both hold days, or moments, where their kinds are theirs
+-- two existing columns both hold days, or both hold moments, exactly if their kinds say so
 pub ends_there : (columns : List Column) (i j : ℕ) (c d : Column) → i < length columns → j < length columns
     → are_ends (plain_kind (slice_index_or columns i c).kind) (plain_kind (slice_index_or columns j d).kind)
     ≡ are_ends (slice_index_or (kinds_in columns) i Ints) (slice_index_or (kinds_in columns) j Ints)
 ends_there columns i j c d h k = λ m. are_ends (kind_at columns i c h m) (kind_at columns j d k m)
 
--- whether the application period has this name, where it is its name
+-- whether the application period, if it is this one, has this name
 pub period_called : (n : Name) (o : Option (Bor Application)) (a : Bor Application) → o ≡ Some a
     → same_text n (string_bytes a.now.name) ≡ has_name n
     (application_name (option_map (λ (b : Bor Application). application_of b.now) o))

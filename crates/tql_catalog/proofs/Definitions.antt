@@ -1,4 +1,4 @@
--- What is true of a definition.
+-- The rules that each definition follows.
 use Rattle.std.specs.Prelude.{refl, Bool, true, false, not, ◌&&◌, ◌++◌, ◌==◌, nat_lt, IsTrue, List, map, length}
 use Rattle.std.specs.Prelude.{Option, Some, None, slice_index_or}
 use Rattle.std.proofs.Common.{subst}
@@ -22,7 +22,7 @@ and_right : (a b : Bool) → IsTrue (a && b) → IsTrue b
 and_right true b h = h
 and_right false b h = absurd (cc)
 
--- columns and periods that can be those of a table are
+-- columns and periods that a table may have make a definition
 pub right : (n : Name) (cs : List Column) (s : Option System) (a : Option Application) → IsTrue (is_definable cs s a)
     → IsDefinition (table_of_parts n cs s a)
 right n cs s a h =
@@ -38,7 +38,7 @@ right n cs s a h =
       checks = refl;
     }
 
--- with constraints that can be those of the table it is right too
+-- a definition stays one with constraints that the table may have
 pub constrained : (d : TableDef) (ks : List Key) (fs : List Reference) (cs : List Cond) → IsDefinition d
     → IsTrue (are_constraints d ks fs cs) → IsDefinition (with_constraints d ks fs cs)
 constrained d ks fs cs r h =

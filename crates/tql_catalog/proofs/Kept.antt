@@ -1,4 +1,4 @@
--- A list without its generated places, told by removals and by numbers.
+-- A list without its generated positions, by removals and by numbers.
 use Rattle.std.specs.Prelude.{◌≡◌, refl, ℕ, zero, suc, ◌+◌, ◌<◌, ◌≤◌, ◌≢◌, Bool, true, false, not, cond, ◌&&◌, ◌||◌}
 use Rattle.std.specs.Prelude.{◌==◌, nat_lt, List, [], ◌∷◌, map, filter, length, remove, slice_index_or, Option, Some}
 use Rattle.std.specs.Prelude.{None, if◌then◌else◌}
@@ -11,7 +11,7 @@ use Rattle.tql_spec.specs.Creation.{has_number}
 use Rattle.tql_spec.specs.Binding.{generated_columns}
 use Rattle.tql_catalog.specs.Rows.{has_system}
 
--- the list without the places that a test tells, counted from here
+-- the list without the positions that pass a test, counted from a
 abbrev pub except : {X : Type 0} → (ℕ → Bool) → ℕ → List X → List X
 except t a [] = []
 except t a (x ∷ xs) = if t a then except t (a + 1) xs else x ∷ except t (a + 1) xs
@@ -31,14 +31,14 @@ picked {X} t f z a (x ∷ xs) h =
       | false ↦ λ i. here i ∷ rest i
     ]
 
--- a test that tells no place
+-- a test that no position passes
 none_told : {X : Type 0} (t : ℕ → Bool) (a : ℕ) (xs : List X) → ((k : ℕ) → t (a + k) ≡ false) → xs ≡ except t a xs
 none_told t a [] h = refl
 none_told t a (x ∷ xs) h =
     let here : t a ≡ false = ap t (omega arith) ∙ h 0 in
     rw here (ap (λ ys. x ∷ ys) (none_told t (a + 1) xs (λ k. ap t (omega arith) ∙ h (suc k))))
 
--- a test that tells one place
+-- a test that one position passes
 one_told : {X : Type 0} (t : ℕ → Bool) (a k : ℕ) (xs : List X) → k < length xs → t (a + k) ≡ true
     → ((j : ℕ) → j ≢ k → t (a + j) ≡ false)
     → remove xs k ≡ except t a xs
@@ -51,7 +51,7 @@ one_told t a (suc k) (x ∷ xs) l e h =
     rw here (ap (λ ys. x ∷ ys) (one_told t (a + 1) k xs (omega arith) (ap t (omega arith)
     ∙ e) (λ j q. ap t (omega arith) ∙ h (suc j) (λ r. q (omega arith)))))
 
--- a test that tells two places
+-- a test that two positions pass
 two_told : {X : Type 0} (t : ℕ → Bool) (a i j : ℕ) (xs : List X) → i < j → j < length xs → t (a + i) ≡ true
     → t (a + j) ≡ true
     → ((k : ℕ) → k ≢ i → k ≢ j → t (a + k) ≡ false) → remove (remove xs j) i ≡ except t a xs
@@ -67,9 +67,9 @@ two_told t a (suc i) (suc j) (x ∷ xs) l m e f h =
     ∙ e) (ap t (omega arith) ∙ f)
     (λ k q r. ap t (omega arith) ∙ h (suc k) (λ s. q (omega arith)) (λ s. r (omega arith)))))
 
--- ---- the generated places
+-- ---- the generated positions
 
--- a system period's columns are two of so many
+-- the columns of a system period are two of `width` columns
 pub record Within (s : System) (width : ℕ) : Type 0 where
   pub start : s.start < width
   pub end : s.end < width
@@ -96,7 +96,7 @@ within s width h = record {
       not_is (s.start == s.end) (and_right (nat_lt s.start width && nat_lt s.end width) _ h) in absurd cc;
 }
 
--- the list without the generated places
+-- the list without the generated positions
 abbrev pub kept : {X : Type 0} → Option System → List X → List X
 kept None xs = xs
 kept (Some s) xs = if nat_lt s.start s.end then remove (remove xs s.end) s.start else remove (remove xs s.start) s.end
@@ -129,7 +129,7 @@ kept_of s xs false e w =
     (told_end s (0 + s.end) (omega arith)) (told_start s (0 + s.start) (omega arith))
     (λ k p q. not_told s (0 + k) (λ r. q (omega arith)) (λ r. p (omega arith)))
 
--- what is kept stands at the numbers that are not generated
+-- the kept elements are those at the positions that are not generated
 pub kept_law : {X : Type 0} (z : X) (s : Option System) (xs : List X) → has_system s (length xs) ≡ true
     → kept s xs ≡ map (λ i. slice_index_or xs i z)
     (filter (λ i. not (has_number i (generated_columns s))) (range_with_len 0 (length xs)))
@@ -142,7 +142,7 @@ kept_law z (Some s) xs h =
     ∙ sym (picked (λ i. has_number i (generated_columns (Some s))) (λ i. slice_index_or xs i z) z 0 xs
     (λ k l. ap (λ i. slice_index_or xs i z) (omega arith)))
 
--- two of the places are generated
+-- two of the positions are generated
 pub two_less : {X : Type 0} (s : System) (xs : List X) (b : Bool) → nat_lt s.start s.end ≡ b → Within s (length xs)
     → length (if b then remove (remove xs s.end) s.start else remove (remove xs s.start) s.end) + 2 ≡ length xs
 two_less s xs true h w =

@@ -1,4 +1,4 @@
--- Tests of lists whose elements stand for others.
+-- Tests of lists through the models of their elements.
 use Rattle.std.proofs.Common.{◌≡◌, refl, ap, map, List, [], ◌∷◌, Bool}
 use Rattle.std.specs.Prelude.{◌||◌, ◌&&◌}
 use Rattle.std.specs.List.{list_any, list_all}

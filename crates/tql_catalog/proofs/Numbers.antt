@@ -1,4 +1,4 @@
--- Numbers that are added one by one.
+-- Numbers that are added one at a time.
 use Rattle.std.specs.Prelude.{◌≡◌, ℕ, zero, suc, ◌+◌, Bool, not, List, [], ◌∷◌, ◌++◌, map, filter, length, Option}
 use Rattle.std.specs.Prelude.{option_map}
 use Rattle.std.specs.List.{range_with_len}
@@ -17,7 +17,7 @@ range_more : (a n k : ℕ) → a + n ≡ k → range_with_len a (suc n) ≡ rang
 range_more a zero k e = ap {B = List ℕ} (λ i. i ∷ []) (omega arith)
 range_more a (suc n) k e = ap {B = List ℕ} (λ is. a ∷ is) (range_more (a + 1) n k (omega arith))
 
--- one more number that is tested
+-- one more number is tested
 pub one_more_number : (t : ℕ → Bool) (n : ℕ)
     → filter t (range_with_len 0 n) ++ filter t (n ∷ []) ≡ filter t (range_with_len 0 (n + 1))
 one_more_number t n = sym (ap (λ k. filter t (range_with_len 0 k)) (add-one n)

@@ -1,4 +1,4 @@
--- References to earlier tables, where a table comes behind the others or is taken out.
+-- References to earlier tables, when a table is added or removed.
 use Rattle.std.proofs.Common.{◌≡◌, refl, ap, sym, ◌∙◌, ℕ, zero, suc, Bool, true, false, List, [], ◌∷◌, ◌++◌, length}
 use Rattle.std.proofs.Common.{append_assoc, append-nil, ◌<◌, arith, Option, Some, None}
 use Rattle.std.specs.Prelude.{◌||◌, ◌&&◌, remove, if◌then◌else◌}
@@ -22,7 +22,7 @@ neither : (a b : Bool) → a || b ≡ false → (a ≡ false) × (b ≡ false)
 neither true b h = absurd (cc)
 neither false b h = (refl, h)
 
--- ---- a table behind the others
+-- ---- a table is added
 
 pub parents_more : (before ds : List TableDef) (d : TableDef) → have_parents before ds ≡ true
     → list_all (can_have (before ++ ds)) d.references ≡ true → have_parents before (ds ++ d ∷ []) ≡ true
@@ -34,9 +34,9 @@ parents_more before (x ∷ ds) d h k =
     (λ i. parts.0 i && parents_more (before ++ x ∷ []) ds d parts.1
     (ap (λ (ts : List TableDef). list_all (can_have ts) d.references) (append_assoc before (x ∷ []) ds) ∙ k) i)
 
--- ---- a table taken out
+-- ---- a table is removed
 
--- the names are not one, whichever is asked of the other
+-- the names differ in either order
 other_way : (n m : Name) → same_text n m ≡ false → same_text m n ≡ false
 other_way n m h =
     either (same_text m n)
@@ -49,7 +49,7 @@ next_is : (x : TableDef) (defs : List TableDef) (f : Reference) (o : Option ℕ)
 next_is x defs f None = refl
 next_is x defs f (Some p) = refl
 
--- a table of another name is nothing to a reference
+-- a table of another name does not matter to a reference
 passed : (xs ys : List TableDef) (x : TableDef) (f : Reference) → same_text f.parent x.name ≡ false
     → can_have (xs ++ x ∷ ys) f ≡ can_have (xs ++ ys) f
 passed [] ys x f h =
@@ -76,7 +76,7 @@ all_passed xs ys x (f ∷ fs) h =
     let parts = neither (same_text x.name f.parent) (list_any (λ (g : Reference). same_text x.name g.parent) fs) h in
     (λ i. passed xs ys x f (other_way x.name f.parent parts.0) i && all_passed xs ys x fs parts.1 i)
 
--- nor to those behind it
+-- a table that no reference names does not matter to these tables
 none_named : (xs ys : List TableDef) (x : TableDef) (ds : List TableDef) → is_referenced x.name ds ≡ false
     → have_parents (xs ++ x ∷ ys) ds ≡ have_parents (xs ++ ys) ds
 none_named xs ys x [] h = refl

@@ -1,4 +1,4 @@
--- The lists of referring tables, where a table comes behind the others or is dropped.
+-- The lists of referring tables, when a table is added or dropped.
 use Rattle.std.proofs.Common.{◌≡◌, refl, ap, sym, ◌∙◌, ℕ, zero, suc, Bool, true, false, List, [], ◌∷◌, ◌++◌, length}
 use Rattle.std.proofs.Common.{append_assoc, subst, ◌+◌, ◌<◌, ◌≤◌, arith, Option, Some, None, filter, eq-eqb, ne_eqb}
 use Rattle.std.specs.Prelude.{◌||◌, ◌&&◌, ◌==◌, not, nat_lt, remove, if◌then◌else◌, is_some, is_none, All, Vec, map}
@@ -27,9 +27,9 @@ both true true h = (refl, refl)
 both true false h = absurd (cc)
 both false b h = absurd (cc)
 
--- ---- places by recursion
+-- ---- positions by recursion
 
--- the places of the elements of which a test is true, counted from here
+-- the positions of the elements that pass a test, counted from a
 abbrev pub places : {X : Type 0} → (X → Bool) → ℕ → List X → List ℕ
 places t a [] = []
 places t a (x ∷ xs) = if t x then a ∷ places t (a + 1) xs else places t (a + 1) xs
@@ -77,7 +77,7 @@ places_within t a b (x ∷ xs) l =
       | false ↦ rest
     ]
 
--- ---- a place that is taken out
+-- ---- a position is removed
 
 gone_step : (gone p : ℕ) (ps : List ℕ) → (p == gone) ≡ true → closed_up gone (p ∷ ps) ≡ closed_up gone ps
 gone_step gone p ps e = rw e refl
@@ -163,13 +163,13 @@ no_places t a (x ∷ xs) =
       | false ↦ no_places t (a + 1) xs
     ]
 
--- the list is empty where no reference names the table
+-- the list is empty exactly if no reference names the table
 pub referring_none : (n : Name) (defs : List TableDef)
     → (length (referring_to n defs) == 0) ≡ not (is_referenced n defs)
 referring_none n defs =
     ap (λ (ps : List ℕ). length ps == 0) (referring_is n defs) ∙ no_places (refers_to n) 0 defs
 
--- ---- no table refers to one that is not there
+-- ---- no table refers to one that does not exist
 
 not_there : (b : Bool) (o : Option ℕ) → is_some (if b then Some 0 else next_place o) ≡ false
     → (b ≡ false) × (is_some o ≡ false)
@@ -215,7 +215,7 @@ unreferenced n before (d ∷ ds) h k =
     (ap (λ (ts : List TableDef). is_some (place_of n ts)) (append_assoc before (d ∷ []) ds) ∙ k) in
     ap (λ (b : Bool). b || is_referenced n ds) own ∙ rest
 
--- a new table has no table that refers to it
+-- no table refers to a new table
 pub none_refer : (defs : List TableDef) (d : TableDef) → have_parents [] defs ≡ true
     → list_all (can_have defs) d.references ≡ true → is_some (place_of d.name defs) ≡ false
     → referring_to d.name (defs ++ d ∷ []) ≡ []
@@ -244,7 +244,7 @@ map_twice : {X Y Z : Type 0} (g : Y → Z) (f : X → Y) (xs : List X) → map g
 map_twice g f [] = refl
 map_twice g f (x ∷ xs) = ap (λ zs. g (f x) ∷ zs) (map_twice g f xs)
 
--- the lists with a table behind the others
+-- the lists after a table was added
 pub lists_more : (tables : List Table) (new : Table) (lists : List (List ℕ))
     → lists ≡ map (λ (t : Table). referring_to t.definition.name (definitions_of tables)) tables
     → referring_to new.definition.name (definitions_of tables ++ new.definition ∷ []) ≡ []
@@ -269,7 +269,7 @@ lists_more tables new lists are none =
     ∙ ap (λ (ds : List TableDef). map (λ (t : Table). referring_to t.definition.name ds) (tables ++ new ∷ []))
     (sym all)
 
--- the lists without a table
+-- the lists after a table was removed
 pub lists_less : (tables : List Table) (k : ℕ) (lists : List (List ℕ)) → k < length tables
     → lists ≡ map (λ (t : Table). referring_to t.definition.name (definitions_of tables)) tables
     → map (closed_up k) (remove lists k)
@@ -293,7 +293,7 @@ at_map g [] k z l = absurd (omega arith)
 at_map g (t ∷ ts) zero z l = refl
 at_map g (t ∷ ts) (suc k) z l = at_map g ts k z (omega arith)
 
--- the list of the table at a place
+-- the list of the table at a position
 pub list_at : (tables : List Table) (k : ℕ) (lists : List (List ℕ)) (z : List ℕ) → k < length tables
     → lists ≡ map (λ (t : Table). referring_to t.definition.name (definitions_of tables)) tables
     → slice_index_or lists k z ≡ referring_to (table_at (definitions_of tables) k).name (definitions_of tables)
@@ -301,7 +301,7 @@ list_at tables k lists z l are =
     ap (λ (ls : List (List ℕ)). slice_index_or ls k z) are
     ∙ at_map (λ n. referring_to n (definitions_of tables)) tables k z l
 
--- the lists are as many as the tables
+-- there are as many lists as tables
 pub lists_count : {A : Type 0} (tables : List Table) (lists : List (Vec ℕ A)) → AreReferring tables lists
     → length lists ≡ length tables
 lists_count tables lists are =
@@ -313,9 +313,9 @@ pub not_not : (b : Bool) → not (not b) ≡ b
 not_not true = refl
 not_not false = refl
 
--- ---- a table that is dropped by its name
+-- ---- a table is dropped by its name
 
--- the table at the place where a name is found has it
+-- the table at the position of a name has this name
 pub named_at : (n : Name) (defs : List TableDef) (p : ℕ) → Some p ≡ place_of n defs → n ≡ (table_at defs p).name
 named_at n [] p e = absurd (cc)
 named_at n (d ∷ defs) p e = by_bool (same_text n d.name)
@@ -330,7 +330,7 @@ named_at n (d ∷ defs) p e = by_bool (same_text n d.name)
     later None h f = absurd (cc)
     later (Some k) h f = let next : p ≡ suc k = cc in rw next (h k refl)
 
--- where a table has the name, only a reference can be a fault
+-- if a table has the name, only a reference can be a fault
 pub fault_there : (defs : List TableDef) (n : Name) (p : ℕ) → Some p ≡ place_of n defs
     → first (drop_faults defs n) ≡ first (reference_faults defs (table_at defs p).name)
 fault_there defs n p e =
@@ -345,14 +345,14 @@ fault_of_reference defs n b e = ap (λ (c : Bool). first (fault_if c TableIsRefe
     told true = refl
     told false = refl
 
--- ---- a table that is created
+-- ---- a table is created
 
 last_at : (tables : List Table) (table : Table)
     → table_at (definitions_of (tables ++ table ∷ [])) (length tables) ≡ table.definition
 last_at [] table = refl
 last_at (t ∷ tables) table = last_at tables table
 
--- the lists once a table's place is noted and its own list is added
+-- the lists after a table's position was added to them and its own list was appended
 pub lists_after : {A : Type 0} (tables : List Table) (table : Table) (after : List Table) (place : ℕ)
     (before noting pushed : List (Vec ℕ A)) (v : Vec ℕ A)
     → after ≡ tables ++ table ∷ [] → place ≡ length tables → AreReferring tables before
@@ -370,7 +370,7 @@ lists_after tables table after place before noting pushed v all at are told push
     (ap lists_of push ∙ map-append (λ w. w.items) noting (v ∷ [])
     ∙ (λ i. (told ∙ same) i ++ empty i ∷ []) ∙ lists_more tables table (lists_of before) are none)
 
--- the lists once a table is dropped
+-- the lists after a table was dropped
 pub lists_before : {A : Type 0} (tables left : List Table) (k : ℕ) (lists removed closed : List (Vec ℕ A))
     → k < length tables → left ≡ remove tables k → AreReferring tables lists → removed ≡ remove lists k
     → lists_of closed ≡ map (closed_up k) (lists_of removed) → AreReferring left closed

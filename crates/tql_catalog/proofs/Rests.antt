@@ -1,4 +1,4 @@
--- Lists whose elements are changed in place, one after another: what is left to do gives what all gives.
+-- Lists whose elements are changed in place, one after another: the remaining changes give what all changes give.
 use Rattle.std.proofs.Common.{◌≡◌, refl, ap, ◌∙◌, ℕ, zero, suc, List, [], ◌∷◌, length, map}
 use Rattle.std.proofs.Common.{◌+◌, ◌<◌, ◌≤◌, arith}
 use Rattle.std.specs.Prelude.{slice_index_or, slice_set, Vec}
@@ -6,7 +6,7 @@ use Rattle.tql_spec.specs.Definition.{TableDef, table_at}
 use Rattle.tql_catalog.specs.Referring.{refers_to, noted_if, noted}
 use Rattle.tql_catalog.specs.Sought.{lists_of}
 
--- the list once a function is applied from this place on
+-- the list after a function was applied from this position on
 abbrev pub rest : {X : Type 0} → (X → X) → ℕ → List X → List X
 rest f zero xs = map f xs
 rest f (suc n) [] = []
@@ -30,7 +30,7 @@ rest_end f (suc n) [] l = refl
 rest_end f zero (x ∷ xs) l = absurd (omega arith)
 rest_end f (suc n) (x ∷ xs) l = ap (λ ws. x ∷ ws) (rest_end f n xs (omega arith))
 
--- the lists once the place of a table is noted from this one on
+-- the lists after the position of a table was added from this list on
 abbrev pub rest_noted : TableDef → ℕ → ℕ → List TableDef → List (List ℕ) → List (List ℕ)
 rest_noted d p zero ts lists = noted d p ts lists
 rest_noted d p (suc n) (t ∷ ts) (list ∷ lists) = list ∷ rest_noted d p n ts lists
@@ -63,14 +63,14 @@ noted_end d p (suc n) (t ∷ ts) (x ∷ lists) l = ap (λ ws. x ∷ ws) (noted_e
 
 -- ---- lists that are changed in place
 
--- the places that a list has
+-- the positions in a list
 pub places_of : {A : Type 0} (lists : List (Vec ℕ A)) (n : ℕ) (v : Vec ℕ A) (z : List ℕ) → n < length lists
     → (slice_index_or lists n v).items ≡ slice_index_or (lists_of lists) n z
 places_of [] n v z l = absurd (omega arith)
 places_of (x ∷ lists) zero v z l = refl
 places_of (x ∷ lists) (suc n) v z l = places_of lists n v z (omega arith)
 
--- a list with the same places in another's stead
+-- a list is replaced by one with the same positions
 pub same_places : {A : Type 0} (lists : List (Vec ℕ A)) (n : ℕ) (v new : Vec ℕ A) → n < length lists
     → new.items ≡ (slice_index_or lists n v).items → lists_of (slice_set lists n new) ≡ lists_of lists
 same_places [] n v new l e = absurd (omega arith)

@@ -1,4 +1,4 @@
--- The lists of columns by which rows are sought, one after another.
+-- The lists of columns by which rows are looked up, one after another.
 use Rattle.std.proofs.Common.{◌≡◌, ◌<◌, sym, ap, subst, ◌∙◌, ℕ, ◌+◌, zero, suc, Bool, true, List, [], ◌∷◌, ◌++◌}
 use Rattle.std.proofs.Common.{map, length, take, get_or, append_assoc, arith}
 use Rattle.std.specs.Prelude.{Vec}
@@ -10,7 +10,7 @@ use Rattle.tql_spec.proofs.Members.{both}
 use Rattle.tql_catalog.specs.Rows.{AreStoredAt}
 use Rattle.tql_catalog.specs.Sought.{lists_of}
 
--- a test of all the parts that others stand for is one of each
+-- a test that the models of all elements pass is passed by each
 pub test_of : {A B : Type 0} (P : B → Bool) (f : A → B) (xs : List A) (i : ℕ) (x : A) → i < length xs
     → x ≡ get_or xs i x → list_all P (map f xs) ≡ true → P (f x) ≡ true
 test_of P f [] i x l e h = absurd (omega arith)
@@ -18,7 +18,7 @@ test_of P f (y ∷ xs) zero x l e h = ap (λ z. P (f z)) e ∙ (both (P (f y)) (
 test_of P f (y ∷ xs) (suc i) x l e h =
     test_of P f xs i x (omega arith) e (both (P (f y)) (list_all P (map f xs)) h).1
 
--- one part more
+-- one more element
 columns_more : {A B : Type 0} (columns : B → List ℕ) (f : A → B) (xs : List A) (i : ℕ) (x : A) → i < length xs
     → x ≡ get_or xs i x
     → map columns (map f (take (i + 1) xs)) ≡ map columns (map f (take i xs)) ++ columns (f x) ∷ []
@@ -27,7 +27,7 @@ columns_more columns f xs i x l e =
     ∙ ap (map columns) (map_push f (take i xs) x)
     ∙ map_push columns (map f (take i xs)) (f x)
 
--- with one part more, and one list more that is stored at its columns
+-- one more element, with the list of its stored columns
 pub one_list_more : {A B M : Type 0} (d : TableDef) (before : List (List ℕ)) (columns : B → List ℕ) (f : A → B)
     (xs : List A) (i : ℕ) (x : A) (lists : List (Vec ℕ M)) (stored : Vec ℕ M) → i < length xs → x ≡ get_or xs i x
     → AreStoredAt d (columns (f x)) stored.items

@@ -1,4 +1,4 @@
--- Where the columns that are not generated stand among the cells that are stored.
+-- The numbers of the columns that are not generated among the stored cells.
 use Rattle.std.proofs.Common.{◌≡◌, refl, ap, sym, subst, ◌∙◌, ℕ, ◌+◌, ◌-◌, ◌<◌, ◌≤◌, Bool, true, false}
 use Rattle.std.proofs.Common.{length, inl, inr, arith}
 use Rattle.std.specs.Prelude.{◌≢◌, ℤ, ◌||◌, ◌==◌, not, nat_lt, insert, if◌then◌else◌, List, [], Option, Some, None}
@@ -22,14 +22,14 @@ neither true b h = absurd (cc)
 neither false true h = absurd (cc)
 neither false false h = (refl, refl)
 
--- a column that is neither of them
+-- a column that is not generated is neither of the two
 pub not_generated : (s : System) (i : ℕ) → has_number i (generated_columns (Some s)) ≡ false
     → (i ≢ s.start) × (i ≢ s.end)
 not_generated s i h =
     let both = neither (i == s.start) (i == s.end) h in
     (eqb-false i s.start both.0, eqb-false i s.end both.1)
 
--- two values added, the one further left first
+-- two values are inserted, the one further left first
 two_added : (row : Row) (j k i n : ℕ) (v w : Datum) → j < k → k < length row + 2 → i ≢ j → i ≢ k
     → (i < j → n ≡ i) → (j < i → i < k → n ≡ i - 1) → (k < i → n ≡ i - 2)
     → cell (insert (insert row j v) k w) i ≡ cell row n
@@ -70,7 +70,7 @@ stored_by s width i n cells m e false is a p q long none first second two =
     two_added cells s.end s.start i n (Moment e) (Moment m) l within q p (λ x. none (omega arith) x)
     (λ x y. second y x) (λ x. two x (omega arith))
 
--- such a column of a row is the stored cell with so many fewer before it
+-- a column that is not generated is the stored cell at its number less the number of generated columns before it
 pub stored_law : (s : System) (width i n : ℕ) (cells : Row) (m e : ℤ) → has_system (Some s) width ≡ true
     → has_number i (generated_columns (Some s)) ≡ false → length cells + 2 ≡ width
     → (i < s.start → i < s.end → n ≡ i)
@@ -82,13 +82,13 @@ stored_law s width i n cells m e h free long none first second two =
     stored_by s width i n cells m e (nat_lt s.start s.end) refl (within s width h) others.0 others.1 long none
     first second two
 
--- how many of the two columns stand before it, as tests say
+-- the number of generated columns before it, by two tests
 abbrev pub fewer : Bool → Bool → ℕ
 fewer true true = 2
 fewer false false = 0
 fewer _ _ = 1
 
--- the law for a table whose generated columns, where there are any, are these
+-- the law for a table whose generated columns, if there are any, are these
 abbrev Stored : System → ℕ → ℕ → Bool → Bool → Option System → Type 0
 Stored s width i a b o =
     has_system o width ≡ true → has_number i (generated_columns o) ≡ false → (cells : Row) (m e : ℤ)
@@ -122,7 +122,7 @@ pub stored_so : (o : Option System) (s : System) → o ≡ Some s → (width i :
     → nat_lt s.end i ≡ b → Stored s width i a b o
 stored_so o s is width i a b h k = subst (Stored s width i a b) (sym is) (by_tests s width i a b h k)
 
--- ---- how many are stored
+-- ---- the number of stored cells
 
 kept_count : (s : Option System) (columns : List Column) → has_system s (length columns) ≡ true
     → length (filter (λ i. not (has_number i (generated_columns s))) (range_with_len 0 (length columns)))
@@ -142,7 +142,7 @@ kept_count s columns h =
     with_both None k = omega arith
     with_both (Some x) k = two_less x columns (nat_lt x.start x.end) refl (within x (length columns) k)
 
--- the stored cells and the generated ones are as many as the columns
+-- there are as many stored and generated cells as columns
 pub stored_count : (d : TableDef) → IsDefinition d → stored_width d + length (generated_columns d.system)
     ≡ length d.columns
 stored_count d r = kept_count d.system d.columns (has_its_system d r)

@@ -1,5 +1,5 @@
--- How the logic stores expressions, conditions and the definitions of tables: each as a tree of numbers that gives it
--- back.
+-- How the logic encodes expressions, conditions and the definitions of tables: each as a tree of numbers from which it
+-- can be decoded.
 use Rattle.std.specs.Prelude.{◌≡◌, refl, ℕ, zero, suc, Bool, List, [], ◌∷◌, ℤ, pos, negsuc, Option}
 use Rattle.std.specs.Coded.{Coded, code_by, coded×, coded_ℕ, coded_bool, coded_list, coded_option}
 use Rattle.std.proofs.Common.{ap}
@@ -17,7 +17,7 @@ use Rattle.tql_spec.specs.Definition.{Name, Column, Application, System, Key, Re
 abbrev coded_tree : Coded Gv
 coded_tree = record { code = λ g. g; inj = λ x y p. p }
 
--- ---- words
+-- ---- enumerations
 
 abbrev kind_number : Kind → ℕ
 kind_number Ints = 0
@@ -270,7 +270,7 @@ reference_code =
     (λ f. (f.columns, (f.by_period, (f.parent, f.parent_columns))))
     (λ p. record { columns = p.0; by_period = p.1.0; parent = p.1.1.0; parent_columns = p.1.1.1 }) (λ _. refl)
 
--- the parts of a definition, in pairs
+-- the parts of a definition, as nested pairs
 abbrev Parts : Type 0
 Parts = Name × (List Column × (Option System × (Option Application × (List Key × (List Reference × List Cond)))))
 

@@ -1,4 +1,4 @@
--- What is told of a table's columns alone.
+-- Single properties of a table's columns.
 use Rattle.std.specs.Prelude.{Bool, List, map}
 use Rattle.tql_spec.specs.Datum.{Kind}
 use Rattle.tql_spec.specs.Definition as definition

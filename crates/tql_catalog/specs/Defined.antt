@@ -1,4 +1,4 @@
--- What is true of the definition of each table, part by part.
+-- The rules for the definition of a table, part by part.
 use Rattle.std.specs.Prelude.{ℕ, Bool, true, false, not, ◌&&◌, ◌||◌, ◌==◌, ◌++◌, nat_lt, IsTrue, List, [], map}
 use Rattle.std.specs.Prelude.{length, Option, Some, None, slice_index_or}
 use Rattle.std.specs.List.{list_all}
@@ -10,24 +10,26 @@ use Rattle.tql_spec.specs.Creation.{has_aggregate, uses_column}
 use Rattle.tql_spec.specs.Binding.{generated_columns, is_generated}
 use Rattle.tql_catalog.specs.Rows.{are_assignable}
 
--- whether a column of this number is there and holds moments
+-- whether there is a column of this number, and it holds moments
 abbrev pub is_moment_at : List Kind → ℕ → Bool
 is_moment_at kinds i = nat_lt i (length kinds) && same_kind (slice_index_or kinds i Ints) Moments
 
--- whether the generated columns, where there are any, are two columns that hold moments
+-- whether the generated columns, if there are any, are two columns that hold moments
 abbrev pub is_system_period : List Kind → Option System → Bool
 is_system_period kinds None = true
 is_system_period kinds (Some s) = is_moment_at kinds s.start && is_moment_at kinds s.end && not (s.start == s.end)
 
--- whether a column of this number is there and takes no null
+-- whether there is a column of this number, and it takes no null
 abbrev pub is_required_at : List Bool → ℕ → Bool
 is_required_at required i = nat_lt i (length required) && slice_index_or required i false
 
--- whether a column of this number can end a period that users write: it is there, takes no null, and is not generated
+-- whether the column of this number can be an end of a period that users write: it exists, takes no null, and is not
+-- generated
 abbrev pub is_end_at : List Bool → Option System → ℕ → Bool
 is_end_at required system i = is_required_at required i && not (has_number i (generated_columns system))
 
--- whether the application period, where there is one, is of two columns that can end it and both hold days, or moments
+-- whether the application period, if there is one, has two columns that can be its ends and both hold days, or both
+-- hold moments
 abbrev pub is_application_period : List Column → Option System → Option Application → Bool
 is_application_period columns system None = true
 is_application_period columns system (Some a) =
@@ -39,43 +41,44 @@ is_application_period columns system (Some a) =
 
 -- ---- the parts
 
--- no name stands twice among those of the columns and that of the application period
+-- no name occurs twice among those of the columns and that of the application period
 abbrev pub HasColumns : TableDef → Type 0
 HasColumns d = IsTrue (not (repeats (names_of d ++ application_name d.application)))
 
--- none, or two columns of the table that hold moments
+-- there are no generated columns, or they are two columns of the table that hold moments
 abbrev pub HasSystemPeriod : TableDef → Type 0
 HasSystemPeriod d = IsTrue (is_system_period (kinds_of d) d.system)
 
--- none, or two columns of the table, neither generated, that take no null and hold days, or moments
+-- there is no application period, or it has two columns of the table, neither generated, that take no null; both hold
+-- days, or both hold moments
 abbrev pub HasApplicationPeriod : TableDef → Type 0
 HasApplicationPeriod d = IsTrue (is_application_period d.columns d.system d.application)
 
--- whether the columns of a key are columns of the table, none generated and none twice
+-- whether the columns of a key are columns of the table, none generated and none listed twice
 abbrev pub is_key : TableDef → Key → Bool
 is_key d k = are_assignable d k.columns
 
--- whether the columns of a reference are such columns
+-- whether the columns of a reference are columns of the table, none generated and none listed twice
 abbrev pub is_reference : TableDef → Reference → Bool
 is_reference d f = are_assignable d f.columns
 
--- whether neither an aggregate nor a generated column stands in a check
+-- whether a check contains no aggregate and no generated column
 abbrev pub is_check : TableDef → Cond → Bool
 is_check d c = not (has_expr has_aggregate c || has_expr (uses_column (is_generated d)) c)
 
--- each of its keys is one
+-- each key follows the rule
 abbrev pub HasKeys : TableDef → Type 0
 HasKeys d = IsTrue (list_all (is_key d) d.keys)
 
--- each of its references is one
+-- each reference follows the rule
 abbrev pub HasReferences : TableDef → Type 0
 HasReferences d = IsTrue (list_all (is_reference d) d.references)
 
--- each of its checks is one
+-- each check follows the rule
 abbrev pub HasChecks : TableDef → Type 0
 HasChecks d = IsTrue (list_all (is_check d) d.checks)
 
--- a definition whose parts are all right
+-- a definition whose parts all follow the rules
 pub record IsDefinition (d : TableDef) : Type 0 where
   pub columns : HasColumns d
   pub system : HasSystemPeriod d
@@ -86,7 +89,7 @@ pub record IsDefinition (d : TableDef) : Type 0 where
 
 -- ---- tables of columns and periods, and their constraints
 
--- such a table
+-- a table without constraints
 abbrev pub table_of_parts : Name → List Column → Option System → Option Application → TableDef
 table_of_parts n cs s a = record {
   name = n;
@@ -98,16 +101,16 @@ table_of_parts n cs s a = record {
   checks = [];
 }
 
--- the table with these keys, references and checks in place of its own
+-- the table with these keys, references and checks instead of its own
 abbrev pub with_constraints : TableDef → List Key → List Reference → List Cond → TableDef
 with_constraints d ks fs cs = record d { keys = ks; references = fs; checks = cs }
 
--- whether they can be those of the table
+-- whether the table may have these constraints
 abbrev pub are_constraints : TableDef → List Key → List Reference → List Cond → Bool
 are_constraints d ks fs cs =
     list_all (is_key d) ks && list_all (is_reference d) fs && list_all (is_check d) cs
 
--- whether columns and periods can be those of a table
+-- whether a table may have these columns and periods
 abbrev pub is_definable : List Column → Option System → Option Application → Bool
 is_definable cs s a =
     not (repeats (map (λ (c : Column). c.name) cs ++ application_name a)) && is_system_period

@@ -1,4 +1,4 @@
--- The parts of definitions that those of the code stand for.
+-- The models of the parts of definitions.
 use Rattle.std.specs.Prelude.{List, map, string_bytes}
 use Rattle.tql_spec.specs.Definition as definition
 use Rattle.tql_spec.specs.Expression.{Cond}

@@ -1,4 +1,4 @@
--- The tables that are there, in the order of their creation.
+-- The existing tables, in the order of their creation.
 use Rattle.std.specs.Prelude.{◌≡◌, ◌≢◌, ◌≤◌, refl, ℕ, ◌++◌, List, [], ◌∷◌, map, length, nat_le, is_some, is_none}
 use Rattle.std.specs.Prelude.{String, string_bytes, Bool, true, false, ◌&&◌, IsTrue}
 use Rattle.std.specs.Prelude.{All, Option, Some, None, Result, Ok, Err, ⊤}
@@ -15,7 +15,7 @@ use Rattle.tql_value.specs.declared.refusal.Refusal.TheVariants.{OutOfMemory}
 use Rattle.tql_catalog.specs.Codes.{table_def_code}
 use Rattle.tql_catalog.specs.declared.catalog.Table.{Table}
 
--- how the logic stores tables
+-- how the logic encodes tables
 abbrev table_code : Coded Table
 table_code = code_by (TableDef × ℕ) (coded× table_def_code coded_ℕ) (λ t. (t.definition, t.id))
     (λ p. record { definition = p.0; id = p.1 }) (λ _. refl)
@@ -23,29 +23,29 @@ table_code = code_by (TableDef × ℕ) (coded× table_def_code coded_ℕ) (λ t.
 abbrev pub tables_code : Coded (List Table)
 tables_code = coded_list table_code
 
--- their definitions
+-- the definitions of tables
 abbrev pub definitions_of : List Table → List TableDef
 definitions_of tables = map (λ (t : Table). t.definition) tables
 
--- none of them is kept at this number
+-- no table is kept at this number
 abbrev pub IsFree : ℕ → List Table → Type 0
 IsFree id tables = All (λ (t : Table). t.id ≢ id) tables
 
--- whether a table's columns there are a key of it, where the table is there
+-- whether the table at this position, if there is one, has the referenced columns as a key
 abbrev pub has_key_at : List TableDef → Reference → Option ℕ → Bool
 has_key_at defs f None = false
 has_key_at defs f (Some p) = is_declared_key (table_at defs p) f.by_period f.parent_columns
 
--- whether a new table can have this reference: it is to a key of one of the tables that are there
+-- whether a new table can have this reference: it is to a key of an existing table
 abbrev pub can_have : List TableDef → Reference → Bool
 can_have defs f = has_key_at defs f (place_of f.parent defs)
 
--- whether each reference of tables is to a key of a table before its own; these are before them all
+-- whether each reference of a list of tables is to a key of an earlier table; the tables `before` come first
 abbrev pub have_parents : List TableDef → List TableDef → Bool
 have_parents before [] = true
 have_parents before (d ∷ ds) = list_all (can_have before) d.references && have_parents (before ++ d ∷ []) ds
 
--- no two have one name, no two are kept at one number, they are at most 1,000, and each reference is to a key of an
+-- no two tables have the same name or the same number; there are at most 1,000; each reference is to a key of an
 -- earlier table
 pub record IsCatalog (tables : List Table) : Type 0 where
   pub names : AllPairs (λ (t u : Table). t.definition.name ≢ u.definition.name) tables
@@ -53,11 +53,11 @@ pub record IsCatalog (tables : List Table) : Type 0 where
   pub count : length tables ≤ 1000
   pub parents : IsTrue (have_parents [] (definitions_of tables))
 
--- what is kept under a text is the table of this name
+-- each table is kept under its name
 abbrev pub IsByName : {Z : Type 0} → List (String Z × Table) → Type 0
 IsByName entries = map (λ e. string_bytes e.0) entries ≡ map (λ e. e.1.definition.name) entries
 
--- the faults of a new table of this name that the tables which are there show
+-- the faults of a new table of this name, given the existing tables
 abbrev pub creation_faults : List TableDef → Name → List spec.Refusal
 creation_faults defs n =
     fault_if (is_some (place_of n defs)) TableUnknownOrAlreadyThere ++ fault_if (nat_le 1000 (length defs))
@@ -75,14 +75,14 @@ reference_faults defs n = fault_if (is_referenced n defs) TableIsReferenced
 abbrev pub drop_faults : List TableDef → Name → List spec.Refusal
 drop_faults defs n = absence_faults defs n ++ reference_faults defs n
 
--- the fault is the refusal; where there is none, nothing is refused
+-- the refusal is the fault; without a fault, nothing is refused
 abbrev pub Refuses : {A : Type 0} → Option spec.Refusal → Result A Refusal → Type 0
 Refuses None (Ok x) = ⊤
 Refuses None (Err e) = ⊥
 Refuses (Some fault) (Ok x) = ⊥
 Refuses (Some fault) (Err e) = refusal_of e ≡ fault
 
--- a fault is told; where there is none, only memory is refused
+-- the refusal is the fault; without a fault, the only refusal is for memory
 abbrev pub Tells : {A : Type 0} → Option spec.Refusal → Result A Refusal → Type 0
 Tells None (Ok x) = ⊤
 Tells None (Err e) = e ≡ OutOfMemory

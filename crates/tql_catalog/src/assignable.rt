@@ -1,4 +1,4 @@
-//! The columns to which a user may give values, by their numbers from 0.
+//! The columns to which a user may assign values, by number from 0.
 ghost use Rattle.std.specs.Prelude.{◌≡◌, ◌++◌, ◌<◌, [], ◌∷◌, not, filter, length, option_map, IfOk, OnOk, true, ◌&&◌};
 ghost use Rattle.std.specs.Prelude.{nat_lt, false, IsTrue, ℤ, ◌+◌};
 ghost use Rattle.std.specs.List.{range_with_len, list_all};
@@ -38,7 +38,7 @@ fn add_assignable(
     Ok(())
 }
 
-/// The numbers of the columns that are not generated, of so many.
+/// Returns the numbers of the columns that are not generated, among `width` columns.
 pub(crate) fn assignable_numbers(
     memory: Memory,
     width: usize,
@@ -54,7 +54,8 @@ pub(crate) fn assignable_numbers(
     Ok(numbers)
 }
 
-/// The number that a column which is not generated has among the stored ones, from 0, in a table of so many columns.
+/// Returns the number of a column among the stored ones, from 0, in a table of `width` columns. The column must not be
+/// generated.
 pub(crate) fn stored_number(width: usize, system: Option<System>, column: usize) -> usize
     requires there { IsTrue (has_system (option_map system_of system) width) }
     requires stored { has_number column (generated_columns (option_map system_of system)) ≡ false }
@@ -73,7 +74,7 @@ pub(crate) fn stored_number(width: usize, system: Option<System>, column: usize)
     }
 }
 
-/// Whether a number stands twice.
+/// Whether a number occurs twice.
 pub(crate) fn has_repeated(numbers: &[usize]) -> bool
     ensures { result ≡ numbers_repeat numbers.now }
 {
@@ -87,7 +88,7 @@ pub(crate) fn has_repeated(numbers: &[usize]) -> bool
     false
 }
 
-/// Whether a column of this number is there, of so many, and not generated.
+/// Whether this is the number of one of `width` columns, and the column is not generated.
 fn is_open(width: usize, system: Option<System>, number: usize) -> bool
     ensures { result ≡ (nat_lt number width
         && not (has_number number (generated_columns (option_map system_of system)))) }
@@ -95,7 +96,7 @@ fn is_open(width: usize, system: Option<System>, number: usize) -> bool
     number < width && !is_generated(system, number)
 }
 
-/// Whether all of these columns are there, of so many, and not generated.
+/// Whether each of these is the number of one of `width` columns, and no column is generated.
 pub(crate) fn are_open(width: usize, system: Option<System>, numbers: &[usize]) -> bool
     ensures { result ≡ list_all
         (λ i. nat_lt i width && not (has_number i (generated_columns (option_map system_of system)))) numbers.now }

@@ -1,4 +1,4 @@
-//! The tables that are there.
+//! The catalog of existing tables.
 ghost use Rattle.std.specs.Prelude.{◌≡◌, ◌≢◌, ◌↔◌, ◌<◌, ◌++◌, [], ◌∷◌, length, slice_get, All, IsTrue, OnOk, OnErr};
 ghost use Rattle.std.specs.Prelude.{IfOk, Some, option_map, is_some, remove};
 ghost use Rattle.std.specs.List.{list_all};
@@ -22,10 +22,10 @@ use tql_memory::Memory;
 use tql_value::refusal::Refusal;
 use tql_value::table::TableId;
 
-/// A table that is there.
+/// An existing table.
 pub struct Table {
     pub definition: TableDef,
-    /// The number at which the store keeps the rows.
+    /// The number under which the store keeps the rows.
     pub id: TableId,
 }
 
@@ -39,12 +39,13 @@ impl Drop for Table {
 /// Tables in order, each under its name.
 pub(crate) type Tables = IndexMap<String<Memory>, Table, BuildHasherDefault<FoldHasher>, Memory>;
 
-/// The tables that are there, in the order of their creation: at most 1,000, each of a name and with a number of its
-/// own; each reference of a table is to a key of an earlier one. Contracts see the list of them. A table is found by
-/// its name in a time that on average does not grow with their number, and the tables that refer to it by its place.
+/// The existing tables, in the order of their creation: at most 1,000, each with its own name and number. Each
+/// reference is to a key of an earlier table. The model is the list of tables. The average time to find a table by name
+/// does not depend on the number of tables. Nor does the time to find the tables that refer to a table, given its
+/// position.
 pub struct Catalog {
     tables: Tables,
-    /// For each table the places of those that have a reference to it.
+    /// For each table, the positions of the tables that have a reference to it.
     referring: Vec<Vec<usize, Memory>, Memory>,
 }
 
@@ -74,7 +75,7 @@ impl Model for Catalog {
 }
 
 impl Catalog {
-    /// A catalog without tables.
+    /// Creates a catalog without tables.
     pub fn new(memory: Memory) -> Catalog
         ensures { result ≡ [] }
     {
@@ -84,7 +85,7 @@ impl Catalog {
         }
     }
 
-    /// How many tables there are, at most 1,000.
+    /// Returns the number of tables, at most 1,000.
     pub fn len(&self) -> usize
         ensures len { result ≡ length self.now }
         ensures right { IsCatalog self.now }
@@ -92,7 +93,7 @@ impl Catalog {
         self.tables.len()
     }
 
-    /// The place of the table of this name, from 0, in the order of creation.
+    /// Returns the position of the table of this name, from 0, in the order of creation.
     pub fn place_of(&self, name: &str) -> Option<usize>
         ensures place { result ≡ spec.place_of name.now (definitions_of self.now) }
         ensures within { ForSome result (λ place. place < length self.now) }
@@ -100,7 +101,7 @@ impl Catalog {
         self.tables.get_index_of(name)
     }
 
-    /// The table at a place.
+    /// Returns the table at a position.
     pub fn table(&self, place: usize) -> &Table
         requires { place < length self.now }
         ensures table { slice_get self.now place ≡ Some result.now }
@@ -109,7 +110,7 @@ impl Catalog {
         &self.tables[place]
     }
 
-    /// Returns the table of this name: its definition and its number. Refused where no such table is there.
+    /// Returns the table of this name: its definition and its number. Refused if there is no table of this name.
     pub fn find(&self, name: &str) -> Result<&Table, Refusal>
         ensures found { IfOk result (λ table. ForSome (spec.place_of name.now (definitions_of self.now))
             (λ place. slice_get self.now place ≡ Some table.now)) }
@@ -121,7 +122,7 @@ impl Catalog {
         }
     }
 
-    /// The definition of the table at a place; where none is there, what is given for it.
+    /// Returns the definition of the table at a position, or `nothing` if there is no table.
     pub fn definition_or<'a>(&'a self, place: usize, nothing: &'a TableDef) -> &'a TableDef
         requires { nothing.now ≡ spec.no_table }
         ensures { result.now ≡ spec.table_at (definitions_of self.now) place }
@@ -132,7 +133,7 @@ impl Catalog {
         }
     }
 
-    /// Whether a system-versioned table is at this place.
+    /// Whether there is a system-versioned table at this position.
     pub fn is_versioned(&self, place: usize) -> bool
         ensures { result ≡ is_some (spec.table_at (definitions_of self.now) place).system }
     {
@@ -142,15 +143,15 @@ impl Catalog {
         }
     }
 
-    /// Whether no table has this number: it tests what `create` requires, for hosts whose store does not prove it.
+    /// Whether no table has this number. Tests what `create` requires, for hosts whose store does not prove it.
     pub fn is_free(&self, id: TableId) -> bool
         ensures { IsTrue result ↔ IsFree id self.now }
     {
         self.tables.values().all(|table| table.id != id)
     }
 
-    /// The first fault that the tables which are there show of a new table of this name: one of that name is there,
-    /// or 1,000 are.
+    /// Returns the first fault of a new table of this name, given the existing tables: a table has this name, or there
+    /// are 1,000 tables.
     pub fn creation_fault(&self, name: &str) -> Option<Refusal>
         ensures { option_map refusal_of result ≡ first (creation_faults (definitions_of self.now) name.now) }
     {
@@ -163,8 +164,8 @@ impl Catalog {
         }
     }
 
-    /// Whether each reference of a new table is to a key of a table that is there: it tests what `create` requires, for
-    /// hosts whose binder does not prove it.
+    /// Whether each reference of a new table is to a key of an existing table. Tests what `create` requires, for hosts
+    /// whose binder does not prove it.
     pub fn can_hold(&self, definition: &TableDef) -> bool
         ensures { result ≡ list_all (can_have (definitions_of self.now)) definition.now.references }
     {
@@ -174,7 +175,7 @@ impl Catalog {
             .all(|reference| self.has_key_of(reference))
     }
 
-    /// Whether the parent of a reference is there, with the key that the reference is to.
+    /// Whether the parent of a reference exists and has the referenced key.
     fn has_key_of(&self, reference: &Reference) -> bool
         ensures { result ≡ can_have (definitions_of self.now) (reference_of reference.now) }
     {
@@ -187,8 +188,8 @@ impl Catalog {
         }
     }
 
-    /// Adds a table behind the others, under a number that no other has. Refused, the first of them: a table of that
-    /// name is there; 1,000 tables are there; memory. A refusal changes nothing.
+    /// Adds a table after the others, under a number that no other has. Refused for the first of these reasons: a table
+    /// has this name; there are 1,000 tables; out of memory. A refusal changes nothing.
     pub fn create(&mut self, definition: TableDef, id: TableId) -> Result<(), Refusal>
         requires free { IsFree id self.old }
         requires parents { IsTrue (list_all (can_have (definitions_of self.old)) definition.references) }
@@ -210,8 +211,8 @@ impl Catalog {
         Ok(())
     }
 
-    /// Returns the places of the tables that have a reference to the table at a place, in their order. Takes a time
-    /// that does not grow with the number of tables.
+    /// Returns the positions of the tables that have a reference to the table at a position, in order. The time does
+    /// not depend on the number of tables.
     pub fn referring(&self, place: usize) -> &[usize]
         requires { place < length self.now }
         ensures referring { result.now
@@ -221,7 +222,7 @@ impl Catalog {
         self.referring[place].as_slice()
     }
 
-    /// Whether a reference of some table names the table at a place.
+    /// Whether some table has a reference to the table at a position.
     fn is_referenced(&self, place: usize) -> bool
         requires { place < length self.now }
         ensures { result
@@ -230,8 +231,8 @@ impl Catalog {
         !self.referring(place).is_empty()
     }
 
-    /// Returns the first fault of a DROP of the table of this name: no such table is there, or a reference of some
-    /// table names it. `drop_table` refuses exactly these.
+    /// Returns the first fault of a DROP of the table of this name: there is no table of this name, or some table has a
+    /// reference to it. `drop_table` refuses exactly these.
     pub fn drop_fault(&self, name: &str) -> Option<Refusal>
         ensures { option_map refusal_of result ≡ first (drop_faults (definitions_of self.now) name.now) }
     {
@@ -242,8 +243,8 @@ impl Catalog {
         }
     }
 
-    /// Removes the table at a place and returns it. The others stay in their order. Refused, with nothing changed,
-    /// where a reference of some table names it. Takes no memory.
+    /// Removes the table at a position and returns it. The others keep their order. Refused, with nothing changed, if
+    /// some table has a reference to it. Allocates no memory.
     pub fn drop_at(&mut self, place: usize) -> Result<Table, Refusal>
         requires { place < length self.old }
         ensures taken { IfOk result (λ table. slice_get self.old place ≡ Some table) }
@@ -261,8 +262,9 @@ impl Catalog {
         Ok(table)
     }
 
-    /// Removes the table of this name and returns it. The others stay in their order. Refused, with nothing changed,
-    /// for the first of these: no such table is there; a reference of some table names it. Takes no memory.
+    /// Removes the table of this name and returns it. The others keep their order. Refused, with nothing changed, for
+    /// the first of these reasons: there is no table of this name; some table has a reference to it. Allocates no
+    /// memory.
     pub fn drop_table(&mut self, name: &str) -> Result<Table, Refusal>
         ensures taken { IfOk result (λ table. ForSome (spec.place_of name.now (definitions_of self.old))
             (λ place. slice_get self.old place ≡ Some table)) }

@@ -1,4 +1,4 @@
-//! What a table's rows are held to: keys, references to other tables, and checks.
+//! The constraints on a table's rows: keys, references to other tables, and checks.
 ghost use Rattle.std.specs.Prelude.{◌≡◌, All};
 ghost use Rattle.tql_spec.specs.Creation.{same_numbers};
 ghost use Rattle.tql_expr.specs.Meaning.{HasCond};
@@ -6,14 +6,14 @@ ghost use Rattle.tql_expr.specs.Meaning.{HasCond};
 use tql_expr::terms::{CondId, Terms};
 use tql_memory::Memory;
 
-/// A key: no two rows have one tuple of its columns, or none that share a point, where it has WITHOUT OVERLAPS
-/// (ISO/IEC 9075-2:2011, 11.7 `<unique constraint definition>`).
+/// A key: no two rows have the same values in its columns. With WITHOUT OVERLAPS, this applies only to rows whose
+/// periods share a point (ISO/IEC 9075-2:2011, 11.7 `<unique constraint definition>`).
 pub struct Key {
-    /// Its name, for messages. Its view leaves the name out.
+    /// The name, for messages. It is not part of the model.
     pub name: String<Memory>,
-    /// Its columns, by their numbers from 0.
+    /// The columns, by number from 0.
     pub columns: Vec<usize, Memory>,
-    /// Whether it has WITHOUT OVERLAPS.
+    /// Whether the key has WITHOUT OVERLAPS.
     pub by_period: bool,
 }
 
@@ -34,7 +34,7 @@ impl Key {
     ghost use Rattle.tql_spec.specs.Creation.{same_numbers};
     ghost use Rattle.tql_catalog.specs.Definitions.{key_of};
 
-    /// Whether it is of these columns, in this order, and has WITHOUT OVERLAPS or not, as told.
+    /// Whether the key has these columns, in this order, and has WITHOUT OVERLAPS exactly if `by_period` is true.
     pub fn is_of(&self, by_period: bool, columns: &[usize]) -> bool
         ensures { result ≡ (same_numbers (key_of self.now).columns columns.now
             && (if by_period then (key_of self.now).by_period else not (key_of self.now).by_period)) }
@@ -45,15 +45,15 @@ impl Key {
 
 /// A reference to a key of another table (ISO/IEC 9075-2:2011, 11.8 `<referential constraint definition>`).
 pub struct Reference {
-    /// Its name, for messages. Its view leaves the name out.
+    /// The name, for messages. It is not part of the model.
     pub name: String<Memory>,
-    /// Its columns, by their numbers from 0.
+    /// The columns, by number from 0.
     pub columns: Vec<usize, Memory>,
-    /// Whether it has PERIOD.
+    /// Whether the reference has PERIOD.
     pub by_period: bool,
-    /// The name of the table that it references.
+    /// The name of the referenced table.
     pub parent: String<Memory>,
-    /// The columns there, as its key lists them.
+    /// The columns of the referenced table, as its key lists them.
     pub parent_columns: Vec<usize, Memory>,
 }
 
@@ -77,7 +77,7 @@ impl Reference {
     ghost use Rattle.std.specs.Prelude.{◌≡◌, string_bytes};
     ghost use Rattle.tql_spec.specs.Words.{same_text};
 
-    /// Whether it references the table of this name.
+    /// Whether the reference is to the table of this name.
     pub fn is_to(&self, name: &str) -> bool
         ensures { result ≡ same_text name.now (string_bytes self.now.parent) }
     {
@@ -85,12 +85,12 @@ impl Reference {
     }
 }
 
-/// The CHECKs of a table: conditions over its rows, among terms of their own (ISO/IEC 9075-2:2011, 11.9
+/// The CHECKs of a table: conditions on its rows, with terms of their own (ISO/IEC 9075-2:2011, 11.9
 /// `<check constraint definition>`).
 pub struct Checks {
     pub terms: Terms,
     pub conditions: Vec<CondId, Memory>,
-    /// The name of each condition, in the same order, for messages. Their view leaves the names out.
+    /// The name of each condition, in the same order, for messages. The names are not part of the model.
     pub names: Vec<String<Memory>, Memory>,
     ghost held: { All (HasCond terms) conditions.items },
 }
@@ -112,7 +112,7 @@ impl Checks {
     ghost use Rattle.std.specs.Prelude.{◌≡◌, []};
     ghost use Rattle.tql_catalog.specs.Definitions.{checks_of};
 
-    /// No CHECK. Takes no memory.
+    /// Creates an empty list of checks. Allocates no memory.
     pub fn none(memory: Memory) -> Checks
         ensures { checks_of result ≡ [] }
     {
@@ -123,7 +123,7 @@ impl Checks {
         }
     }
 
-    /// Returns these checks with these names in place of their own.
+    /// Returns these checks with these names instead of their own.
     pub fn named(self, names: Vec<String<Memory>, Memory>) -> Checks
         ensures { checks_of result ≡ checks_of self }
     {
@@ -140,7 +140,7 @@ impl Checks {
     }
 }
 
-/// Whether two lists of numbers are one.
+/// Whether two lists of numbers are equal.
 fn are_same(numbers: &[usize], others: &[usize]) -> bool
     ensures { result ≡ same_numbers numbers.now others.now }
 {

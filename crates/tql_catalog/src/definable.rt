@@ -1,4 +1,4 @@
-//! Which columns and which periods can be those of a table.
+//! Which columns and periods a table may have.
 ghost use Rattle.std.specs.Prelude.{◌≡◌, ◌<◌, ◌&&◌, ◌||◌, ◌==◌, ◌++◌, not, length, map, option_map, slice_index_or};
 ghost use Rattle.std.specs.Prelude.{string_bytes, false};
 ghost use Rattle.tql_spec.specs.Creation.{has_name, repeats, are_ends, application_name};
@@ -37,7 +37,7 @@ fn is_taken(columns: &[Column], application: Option<&Application>, name: &str) -
     has_column(columns, name) || is_period_name(application, name)
 }
 
-/// Whether a name stands twice among those of the columns and that of the application period.
+/// Whether a name occurs twice among those of the columns and that of the application period.
 fn has_repeated_name(columns: &[Column], application: Option<&Application>) -> bool
     ensures { result ≡ repeats
         (names_in columns.now ++ application_name (option_map (λ a. application_of a.now) application.entry)) }
@@ -59,14 +59,14 @@ fn is_moment(column: &Column) -> bool
     matches!(column.kind, Kind::Moment)
 }
 
-/// Whether a column of this number is there and holds moments.
+/// Whether there is a column of this number, and it holds moments.
 fn is_moment_at(columns: &[Column], number: usize) -> bool
     ensures { result ≡ defined.is_moment_at (kinds_in columns.now) number }
 {
     number < columns.len() && is_moment(&columns[number])
 }
 
-/// Whether the generated columns, where there are any, are two columns that hold moments.
+/// Whether the generated columns, if there are any, are two columns that hold moments.
 fn is_system_period(columns: &[Column], system: Option<System>) -> bool
     ensures { result ≡ defined.is_system_period (kinds_in columns.now) (option_map system_of system) }
 {
@@ -80,28 +80,29 @@ fn is_system_period(columns: &[Column], system: Option<System>) -> bool
     }
 }
 
-/// Whether the column takes no null.
+/// Whether the column takes no NULL.
 fn is_required(column: &Column) -> bool
     ensures { result ≡ (column_of column.now).required }
 {
     column.is_required
 }
 
-/// Whether a column of this number is there and takes no null.
+/// Whether there is a column of this number, and it takes no NULL.
 fn is_required_at(columns: &[Column], number: usize) -> bool
     ensures { result ≡ defined.is_required_at (required_in columns.now) number }
 {
     number < columns.len() && is_required(&columns[number])
 }
 
-/// Whether a column of this number can end a period that users write: it is there, takes no null, and is not generated.
+/// Whether the column of this number can be an end of a period that users write: it exists, takes no NULL, and is not
+/// generated.
 fn is_end_at(columns: &[Column], system: Option<System>, number: usize) -> bool
     ensures { result ≡ defined.is_end_at (required_in columns.now) (option_map system_of system) number }
 {
     is_required_at(columns, number) && !is_generated(system, number)
 }
 
-/// Whether the columns of these numbers both hold days, or moments.
+/// Whether the columns of these numbers both hold days, or both hold moments.
 fn are_ends_at(columns: &[Column], start: usize, end: usize) -> bool
     requires start { start < length columns.now }
     requires end { end < length columns.now }
@@ -111,7 +112,7 @@ fn are_ends_at(columns: &[Column], start: usize, end: usize) -> bool
     are_ends(columns[start].kind, columns[end].kind)
 }
 
-/// Whether the application period, where there is one, is of two columns that can end it and hold points of one kind.
+/// Whether the application period, if there is one, has two columns that can be its ends and hold points of one kind.
 fn is_application_period(
     columns: &[Column],
     system: Option<System>,
@@ -133,9 +134,9 @@ fn is_application_period(
     }
 }
 
-/// Whether columns and periods can be those of one table: no name stands twice among those of the columns and that of
-/// the application period, the generated columns are two of the columns and hold moments, and those of the
-/// application period are two others that take no null and hold days, or moments.
+/// Whether a table may have these columns and periods. No name may occur twice among those of the columns and that of
+/// the application period. The generated columns must be two of the columns, which hold moments. The columns of the
+/// application period must be two others, which take no NULL and both hold days, or both hold moments.
 pub fn is_definable(
     columns: &[Column],
     system: Option<System>,

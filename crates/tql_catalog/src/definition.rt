@@ -1,4 +1,4 @@
-//! What the definition of a table is made of.
+//! The parts of the definition of a table.
 ghost use Rattle.std.specs.Prelude.{◌≡◌};
 ghost use Rattle.tql_spec.specs.Creation as spec;
 ghost use Rattle.tql_value.specs.Views.{plain_kind};
@@ -6,12 +6,12 @@ ghost use Rattle.tql_value.specs.Views.{plain_kind};
 use tql_memory::Memory;
 use tql_value::value::Kind;
 
-/// A column: its limit is the n of VARCHAR(n), in characters.
+/// A column. Its limit is the n of VARCHAR(n), in characters.
 pub struct Column {
     pub name: String<Memory>,
     pub kind: Kind,
     pub limit: Option<u64>,
-    /// Whether NULL is refused in it.
+    /// Whether the column refuses NULL.
     pub is_required: bool,
 }
 
@@ -36,13 +36,12 @@ pub struct System {
     pub end: usize,
 }
 
-/// The application period of a table: its name, and its columns by their numbers from 0. Both hold days, or both
-/// moments.
+/// The application period of a table: its name, and its columns by number from 0. Both hold days, or both hold moments.
 pub struct Application {
     pub name: String<Memory>,
     /// The column of the first point of a row's period.
     pub start: usize,
-    /// The column of the point at which a row's period has ended.
+    /// The column of the point that follows a row's period.
     pub end: usize,
 }
 
@@ -69,7 +68,7 @@ impl Drop for Column {
     }
 }
 
-/// Whether both kinds are those of days, or of moments.
+/// Whether both kinds are days, or both are moments.
 pub fn are_ends(start: Kind, end: Kind) -> bool
     ensures { result ≡ spec.are_ends (plain_kind start) (plain_kind end) }
 {

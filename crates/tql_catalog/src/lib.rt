@@ -1,4 +1,4 @@
-//! The tables that are there, and their definitions.
+//! The catalog of existing tables, and their definitions.
 #![tactic(auto)]
 
 mod assignable;

@@ -1,8 +1,8 @@
 //! Lists of the tables that have a reference to each table, kept up to date by CREATE and DROP.
 //!
-//! A list names tables by their places, in rising order, since a table is created after those that it refers to. CREATE
-//! reserves room in each list before it changes anything, so that adding the new place cannot fail. DROP takes no
-//! memory: it removes the place from each list and moves the later places down by one.
+//! A list gives tables by their positions, in ascending order, since a table is created after those that it refers to.
+//! CREATE reserves room in each list before it changes anything, so that adding the new position cannot fail. DROP
+//! allocates no memory: it removes the position from each list and moves the later positions down by one.
 ghost use Rattle.std.specs.Prelude.{◌≡◌, ◌<◌, ◌≤◌, All, OnOk, length, map};
 ghost use Rattle.tql_catalog.specs.Referring.{closed_up, moved_down, noted, noted_if, HasRoom};
 ghost use Rattle.tql_catalog.specs.Sought.{lists_of};
@@ -14,7 +14,7 @@ use crate::catalog::Tables;
 use std::alloc::AllocError;
 use tql_memory::Memory;
 
-/// Reserves room for one more place in each list.
+/// Reserves room for one more position in each list.
 pub(crate) fn reserve_each(lists: &mut [Vec<usize, Memory>]) -> Result<(), AllocError>
     ensures lists { lists_of lists.new ≡ lists_of lists.old }
     ensures room { OnOk result (All HasRoom lists.new) }
@@ -25,7 +25,7 @@ pub(crate) fn reserve_each(lists: &mut [Vec<usize, Memory>]) -> Result<(), Alloc
     Ok(())
 }
 
-/// Adds a place to a list if its table refers to the table of the list.
+/// Adds a position to a list if its table refers to the table of the list.
 fn note_if(is_referring: bool, place: usize, list: &mut Vec<usize, Memory>)
     requires { HasRoom list.old }
     ensures { list.new.items ≡ noted_if is_referring place list.old.items }
@@ -35,7 +35,7 @@ fn note_if(is_referring: bool, place: usize, list: &mut Vec<usize, Memory>)
     }
 }
 
-/// Adds the place of a table to the list of each table that it refers to.
+/// Adds the position of a table to the list of each table that it refers to.
 pub(crate) fn note(tables: &Tables, place: usize, lists: &mut [Vec<usize, Memory>])
     requires there { place < length (values tables.now) }
     requires count { length lists.old ≤ length (values tables.now) }
@@ -50,14 +50,14 @@ pub(crate) fn note(tables: &Tables, place: usize, lists: &mut [Vec<usize, Memory
     }
 }
 
-/// Returns the place of a table once the one at `gone` is dropped.
+/// Returns the position of a table after the one at `gone` was dropped.
 fn moved_down(place: usize, gone: usize) -> usize
     ensures { result ≡ moved_down gone place }
 {
     if gone < place { place - 1 } else { place }
 }
 
-/// Moves each place down that is after the one at `gone`.
+/// Moves each position after `gone` down by one.
 fn move_down(places: &mut [usize], gone: usize)
     ensures { places.new ≡ map (moved_down gone) places.old }
 {
@@ -66,7 +66,7 @@ fn move_down(places: &mut [usize], gone: usize)
     }
 }
 
-/// Removes the place of a dropped table from a list, and moves the later ones down by one.
+/// Removes the position of a dropped table from a list, and moves the later ones down by one.
 fn close_up(list: &mut Vec<usize, Memory>, gone: usize)
     ensures { list.new.items ≡ closed_up gone list.old.items }
 {
@@ -74,7 +74,7 @@ fn close_up(list: &mut Vec<usize, Memory>, gone: usize)
     move_down(list, gone);
 }
 
-/// Removes the place of a dropped table from each list, and moves the later ones down by one.
+/// Removes the position of a dropped table from each list, and moves the later ones down by one.
 pub(crate) fn close_each(lists: &mut [Vec<usize, Memory>], gone: usize)
     ensures { lists_of lists.new ≡ map (closed_up gone) (lists_of lists.old) }
 {

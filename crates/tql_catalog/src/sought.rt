@@ -1,4 +1,4 @@
-//! By what rows of a table are sought, as their store is told: each column by its number among those that are stored.
+//! The columns by which rows of a table are looked up, as the store needs them: by number among the stored columns.
 ghost use Rattle.std.specs.Prelude.{IfOk, OnOk, IsTrue, List, ℕ, ◌++◌};
 ghost use Rattle.std.specs.List.{AllZip};
 ghost use Rattle.tql_catalog.specs.Rows.{are_assignable, AreStoredAt};
@@ -9,7 +9,7 @@ use std::alloc::AllocError;
 use tql_memory::Memory;
 
 impl TableDef {
-    /// The numbers that columns, none generated, have among those that are stored, from 0.
+    /// Returns the numbers of these columns among the stored ones, from 0. None of the columns may be generated.
     pub fn stored_numbers(
         &self,
         memory: Memory,
@@ -57,8 +57,8 @@ impl TableDef {
         Ok(())
     }
 
-    /// The lists of columns by which rows are sought: those of the keys, then those of the references, each in the
-    /// order of their declaration, and each column by its number among those that are stored.
+    /// Returns the lists of columns by which rows are looked up: those of the keys, then those of the references, each
+    /// in the order of declaration. Each column is given by its number among the stored ones.
     pub fn sought_lists(
         &self,
         memory: Memory,
@@ -72,8 +72,8 @@ impl TableDef {
         Ok(lists)
     }
 
-    /// The columns of the application period, each by its number among those that are stored; none where the table has
-    /// no such period.
+    /// Returns the columns of the application period, by their numbers among the stored ones, or `None` if the table
+    /// has no application period.
     pub fn sought_period(&self) -> Option<(usize, usize)>
         ensures { IsPeriodStoredAt self.now self.now.application result }
     {

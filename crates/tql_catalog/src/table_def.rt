@@ -25,11 +25,12 @@ use tql_expr::search::Search;
 use tql_expr::terms::{CondId, Terms};
 use tql_memory::Memory;
 
-/// The definition of a table: its name, its columns, its system period where it is system-versioned, its application
-/// period where it has one, and its constraints. No name stands twice among those of the columns and that of the
-/// application period; the generated columns are two columns of the table that hold moments; those of the application
-/// period are two others, which take no null and hold days, or moments; a key or a reference lists columns of the table
-/// that are not generated, none of them twice; in no check stands an aggregate or a generated column.
+/// The definition of a table: its name, its columns, its system period if it is system-versioned, its application
+/// period if it has one, and its constraints. No name occurs twice among those of the columns and that of the
+/// application period. The generated columns are two of the columns, which hold moments. The columns of the application
+/// period are two others, which take no NULL and both hold days, or both hold moments. A key or a reference lists
+/// columns of the table that are not generated, each of them once. A check contains no aggregate and no generated
+/// column.
 pub struct TableDef {
     name: String<Memory>,
     columns: Vec<Column, Memory>,
@@ -91,10 +92,8 @@ impl Model for TableDef {
 }
 
 impl TableDef {
-    /// Whether columns and periods can be those of one table: no name stands twice among those of the columns and
-    /// that of the application period, the generated columns are two of the columns and hold moments, and those of
-    /// the application period are two others that take no null and hold days, or moments. It tests what `new` requires,
-    /// for hosts whose own binder does not prove it.
+    /// Whether a table may have these columns and periods; `TableDef` gives the rules. Tests what `new` requires, for
+    /// hosts whose own binder does not prove it.
     pub fn is_definable(
         columns: &[Column],
         system: Option<System>,
@@ -106,7 +105,8 @@ impl TableDef {
         is_definable(columns, system, application)
     }
 
-    /// The definition of a table without constraints, where its columns and its periods can be those of one table.
+    /// Creates the definition of a table without constraints. A table must be allowed to have these columns and
+    /// periods.
     pub fn new(
         memory: Memory,
         name: String<Memory>,
@@ -134,9 +134,8 @@ impl TableDef {
         })
     }
 
-    /// Whether keys, references and checks can be those of the table: the columns of a key or of a reference are
-    /// columns of the table, none generated and none twice, and neither an aggregate nor a generated column stands in
-    /// a check. It tests what `with_constraints` requires, for hosts whose own binder does not prove it.
+    /// Whether the table may have these keys, references and checks; `TableDef` gives the rules. Tests what
+    /// `with_constraints` requires, for hosts whose own binder does not prove it.
     pub fn are_constraints(&self, keys: &[Key], references: &[Reference], checks: &Checks) -> bool
         ensures { result ≡ defined.are_constraints self.now (map key_of keys.now) (map reference_of references.now)
             (checks_of checks.now) }
@@ -144,14 +143,14 @@ impl TableDef {
         self.are_keys(keys) && self.are_references(references) && self.are_checks(checks)
     }
 
-    /// Whether the columns of each key are such columns.
+    /// Whether the columns of each key are columns of the table, none generated and none listed twice.
     fn are_keys(&self, keys: &[Key]) -> bool
         ensures { result ≡ list_all (defined.is_key self.now) (map key_of keys.now) }
     {
         keys.iter().all(|key| self.are_assignable(&key.columns))
     }
 
-    /// Whether the columns of each reference are such columns.
+    /// Whether the columns of each reference are columns of the table, none generated and none listed twice.
     fn are_references(&self, references: &[Reference]) -> bool
         ensures { result ≡ list_all (defined.is_reference self.now) (map reference_of references.now) }
     {
@@ -160,7 +159,7 @@ impl TableDef {
             .all(|reference| self.are_assignable(&reference.columns))
     }
 
-    /// Whether neither an aggregate nor a generated column stands in these checks.
+    /// Whether these checks contain no aggregate and no generated column.
     fn are_checks(&self, checks: &Checks) -> bool
         ensures { result ≡ list_all (defined.is_check self.now) (checks_of checks.now) }
     {
@@ -170,7 +169,7 @@ impl TableDef {
             .all(|check| self.is_check(&checks.terms, *check))
     }
 
-    /// Whether neither an aggregate nor a generated column stands in a condition.
+    /// Whether a condition contains no aggregate and no generated column.
     fn is_check(&self, terms: &Terms, check: CondId) -> bool
         requires { HasCond terms.now check }
         ensures { result ≡ defined.is_check self.now (cond terms.now check) }
@@ -178,7 +177,7 @@ impl TableDef {
         !(terms.finds_in(Search::Aggregate, check) || self.uses_generated(terms, check))
     }
 
-    /// Whether a generated column stands outside the aggregates of a condition.
+    /// Whether a condition contains a generated column outside its aggregates.
     fn uses_generated(&self, terms: &Terms, check: CondId) -> bool
         requires { HasCond terms.now check }
         ensures { result ≡ has_expr (uses_column (binding.is_generated self.now)) (cond terms.now check) }
@@ -189,7 +188,7 @@ impl TableDef {
         }
     }
 
-    /// The table with these keys, references and checks in place of its own.
+    /// Returns the table with these keys, references and checks instead of its own.
     pub fn with_constraints(
         self,
         keys: Vec<Key, Memory>,
@@ -223,7 +222,7 @@ impl TableDef {
         }
     }
 
-    /// What stands in the place of a table that is not there: no name, no column. Takes no memory.
+    /// Returns the definition that represents a table that does not exist: no name, no column. Allocates no memory.
     pub fn nothing(memory: Memory) -> TableDef
         ensures { result ≡ no_table }
     {
@@ -239,14 +238,14 @@ impl TableDef {
         }
     }
 
-    /// The name.
+    /// Returns the name.
     pub fn name(&self) -> &str
         ensures { result.now ≡ self.now.name }
     {
         self.name.as_str()
     }
 
-    /// Whether a reference of this table names the table of this name.
+    /// Whether this table has a reference to the table of this name.
     pub fn is_referring_to(&self, name: &str) -> bool
         ensures { result ≡ list_any (λ f. same_text name.now f.parent) self.now.references }
     {
@@ -255,14 +254,15 @@ impl TableDef {
             .any(|reference| reference.is_to(name))
     }
 
-    /// Whether it has a key of these columns, in this order, that has WITHOUT OVERLAPS or not, as told.
+    /// Whether the table has a key of these columns, in this order, with WITHOUT OVERLAPS exactly if `by_period` is
+    /// true.
     pub fn has_key(&self, by_period: bool, columns: &[usize]) -> bool
         ensures { result ≡ is_declared_key self.now by_period columns.now }
     {
         self.keys.iter().any(|key| key.is_of(by_period, columns))
     }
 
-    /// The keys, in the order of their declaration.
+    /// Returns the keys, in the order of their declaration.
     pub fn keys(&self) -> &[Key]
         ensures keys { map key_of result.now ≡ self.now.keys }
         ensures right { IsDefinition self.now }
@@ -270,7 +270,7 @@ impl TableDef {
         self.keys.as_slice()
     }
 
-    /// The references, in the order of their declaration.
+    /// Returns the references, in the order of their declaration.
     pub fn references(&self) -> &[Reference]
         ensures references { map reference_of result.now ≡ self.now.references }
         ensures right { IsDefinition self.now }
@@ -278,7 +278,7 @@ impl TableDef {
         self.references.as_slice()
     }
 
-    /// The checks, in the order of their declaration.
+    /// Returns the checks, in the order of their declaration.
     pub fn checks(&self) -> &Checks
         ensures checks { checks_of result.now ≡ self.now.checks }
         ensures right { IsDefinition self.now }
@@ -286,7 +286,7 @@ impl TableDef {
         &self.checks
     }
 
-    /// The columns, in order.
+    /// Returns the columns, in order.
     pub fn columns(&self) -> &[Column]
         ensures columns { map column_of result.now ≡ self.now.columns }
         ensures right { IsDefinition self.now }
@@ -294,7 +294,7 @@ impl TableDef {
         self.columns.as_slice()
     }
 
-    /// The generated columns, by their numbers from 0; none where the table is not system-versioned.
+    /// Returns the generated columns, by number from 0, or `None` if the table is not system-versioned.
     pub fn system(&self) -> Option<System>
         ensures system { option_map system_of result ≡ self.now.system }
         ensures right { IsDefinition self.now }
@@ -302,7 +302,7 @@ impl TableDef {
         self.system
     }
 
-    /// The columns of ROW START and ROW END, by their numbers from 0; none where the table is not system-versioned.
+    /// Returns the columns of ROW START and ROW END, by number from 0, or `None` if the table is not system-versioned.
     pub fn generated(&self) -> Option<(usize, usize)>
         ensures { option_map (λ p. record { start = p.0; end = p.1 }) result ≡ self.now.system }
     {
@@ -312,7 +312,7 @@ impl TableDef {
         }
     }
 
-    /// The application period; none where the table has none.
+    /// Returns the application period, if the table has one.
     pub fn application(&self) -> Option<&Application>
         ensures application { option_map (λ a. application_of a.now) result ≡ self.now.application }
         ensures right { IsDefinition self.now }
@@ -320,7 +320,7 @@ impl TableDef {
         self.application.as_ref()
     }
 
-    /// The application periods: none, or one.
+    /// Returns the application period as a list, which is empty if the table has none.
     pub fn applications(&self) -> &[Application]
         ensures applications { map application_of result.now ≡ listed self.now.application }
         ensures right { IsDefinition self.now }
@@ -346,7 +346,7 @@ impl TableDef {
         is_generated(self.system, number)
     }
 
-    /// The numbers of the columns that are not generated, from 0, in order.
+    /// Returns the numbers of the columns that are not generated, from 0, in order.
     pub fn assignable(&self) -> &[usize]
         ensures assignable { result.now ≡ binding.all_assignable self.now }
         ensures right { IsDefinition self.now }
@@ -354,7 +354,7 @@ impl TableDef {
         self.assignable.as_slice()
     }
 
-    /// The number that a column which is not generated has among the stored ones, from 0.
+    /// Returns the number of a column among the stored ones, from 0. The column must not be generated.
     pub fn stored_number(&self, column: usize) -> usize
         requires within { column < length self.now.columns }
         requires stored { binding.is_generated self.now column ≡ false }
@@ -363,8 +363,8 @@ impl TableDef {
         stored_number(self.columns.len(), self.system, column)
     }
 
-    /// Whether a user may give values to the columns of these numbers: each is there, none is generated, and none
-    /// stands twice.
+    /// Whether a user may assign values to the columns of these numbers: each exists, none is generated, and none is
+    /// listed twice.
     pub fn are_assignable(&self, numbers: &[usize]) -> bool
         ensures { result ≡ rows.are_assignable self.now numbers.now }
     {

@@ -1,4 +1,4 @@
--- From what a text says to the answer of a check.
+-- From the sense of a text to the answer of a check.
 use Rattle.std.proofs.Common.{◌≡◌, refl, subst, sym, inl, inr, true, false, ℕ, List, Ok, Err}
 use Rattle.tql_spec.specs.Machine.{State, Refused}
 use Rattle.tql_spec.specs.Answer.{Replied, Accepted}
@@ -11,7 +11,7 @@ use Rattle.tql_syntax.specs.Texts.{ReadsText}
 use Rattle.tql_syntax_tree.specs.Trees.{tree_of}
 use Rattle.tql_syntax_tree.specs.declared.tree.Tree.{Tree}
 
--- a statement that keeps within the limits
+-- a statement within the width limits
 pub narrow_checks : (s : State) (text : List ℕ) (t : Tree) → ReadsText text (Ok t)
     → tree.is_too_wide (tree_of t) ≡ false → Checks s (finished text) Accepted s
 narrow_checks s text t reads narrow = (inl (Says (tree_of t), (reads.0, reads.1, narrow), refl), refl)
@@ -28,7 +28,7 @@ faulty : (s : State) (text : List ℕ) (e : Refusal) → HasSense (finished text
     → Checks s (finished text) (Replied (Refused (refusal_of e))) s
 faulty s text e sense = (inl (Faulty (refusal_of e), sense, refl), refl)
 
--- no statement was read
+-- the text could not be read as a statement
 pub fault_checks : (s : State) (text : List ℕ) (e : Refusal) → ReadsText text (Err e)
     → Checks s (finished text) (Replied (Refused (refusal_of e))) s
 fault_checks s text r.StatementTooLong why = faulty s text r.StatementTooLong why

@@ -1,4 +1,4 @@
-//! Checking statements: each is read alone, over the whole grammar, and none is run.
+//! Checks statements: each one is parsed on its own, over the whole grammar, and none is run.
 ghost use Rattle.std.specs.Prelude.{⊤, List};
 ghost use Rattle.tql_spec.specs.Answer as run;
 ghost use Rattle.tql_spec.specs.Machine.{State};
@@ -26,9 +26,9 @@ use tql_syntax_fault::unfinished::unfinished_detail;
 use tql_syntax_tree::width::is_too_wide;
 use tql_value::refusal::Refusal;
 
-/// Checks one finished statement by its text, without its `;`. Any bytes are taken. It is accepted, or refused for
-/// the first fault: more than 1,048,576 bytes, bytes that are not UTF-8, more than 64 parentheses open at once, a text
-/// that is no statement, and more than 64 columns or 8 table references. Out of memory is refused too.
+/// Checks one finished statement, given its text without the closing `;`. Accepts any bytes. The statement is accepted,
+/// or refused for its first fault: more than 1,048,576 bytes, invalid UTF-8, more than 64 parentheses open at once, a
+/// syntax error, or more than 64 columns or 8 table references. It is also refused when out of memory.
 pub fn check(memory: Memory, text: &[u8]) -> Answer
     ensures answered { (s : State) → Checks s (finished text.now) (answer_of result) s }
     ensures printable { IsPrintableAnswer (answer_of result) }
@@ -42,14 +42,15 @@ pub fn check(memory: Memory, text: &[u8]) -> Answer
     }
 }
 
-/// What checks the statements of a script. It stands for any state, since no answer depends on one.
+/// A responder that checks the statements of a script. It represents every state, since its answers do not depend on
+/// the state.
 #[derive(Drop)]
 pub struct Checker {
     memory: Memory,
 }
 
 impl Checker {
-    /// What checks statements, each in this memory.
+    /// Returns a checker that allocates in `memory`.
     pub fn new(memory: Memory) -> Checker {
         Checker { memory }
     }
@@ -80,11 +81,11 @@ impl Responder for Checker {
     ghost refuses = { checks_refuse };
 }
 
-/// Checks a script without running it: checks its statements one after another, each as soon as it is whole, and writes
-/// each answer in a form to the sink. The source is pulled only where no whole statement is left, and where the sink
-/// has passed on all answers before. A device that fails ends the check as it ends a run. Where `bail` says so, the
-/// first refusal stops it, as it stops a run, and else a refused statement ends nothing; the listener is told of it.
-/// The summary counts the answers, and the refusals among them.
+/// Checks the statements of a script in order, without running them. Each one is checked as soon as it is whole, and
+/// its answer is written in a form to the sink. The source is pulled only when no whole statement is left and the sink
+/// is flushed. A device failure ends the check as it ends a run. If `bail` is set, the first refusal stops the check;
+/// otherwise a refused statement does not. The listener is notified of each answer. The summary counts the answers and
+/// the refusals among them.
 pub fn check_script_in<I: Source<O>, O: Sink, L: Listener, F: Form>(
     memory: Memory,
     source: &mut I,
@@ -104,7 +105,7 @@ pub fn check_script_in<I: Source<O>, O: Sink, L: Listener, F: Form>(
     run_in(&mut checker, source, sink, listener, form, bail)
 }
 
-/// Checks a script as `check_script_in` does, in the plain form; a refused statement ends nothing.
+/// Checks a script as `check_script_in` does, in the plain form. A refused statement does not stop the check.
 pub fn check_script<I: Source<O>, O: Sink, L: Listener>(
     memory: Memory,
     source: &mut I,

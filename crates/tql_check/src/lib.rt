@@ -1,4 +1,4 @@
-//! Checks of scripts over the whole grammar: nothing is run.
+//! Checks scripts over the whole grammar without running them.
 #![tactic(auto)]
 
 pub mod check;

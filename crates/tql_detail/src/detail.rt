@@ -1,21 +1,21 @@
-//! What is reported of a refused statement besides its number and text.
+//! Details of a refused statement, in addition to the number and text of the refusal.
 use crate::place::Place;
 use std::alloc::AllocError;
 use std::fmt;
 use tql_memory::Memory;
 
-/// What is known of the fault for which a statement is refused, in parts. A line of the standard error has the words
-/// and the hint; a host reads the fields. What is not known is `None`, or an empty list.
+/// The known details of the fault for which a statement is refused. A line on standard error shows the words and the
+/// hint; a host can read the fields. Unknown fields are `None` or an empty list.
 pub struct Detail {
-    /// Where the fault is.
+    /// The place of the fault.
     pub place: Option<Place>,
-    /// What is wrong, as one line without the hint.
+    /// What is wrong, in one line without the hint.
     pub words: String<Memory>,
     /// What to write instead, or what else helps.
     pub hint: Option<String<Memory>>,
-    /// The name of the constraint that a row fails: the written one, or else the one that PostgreSQL would give it.
+    /// The name of the constraint that a row violates: the declared name, or the name that PostgreSQL would generate.
     pub constraint: Option<String<Memory>>,
-    /// The names of the columns of that constraint, or of those in which a row fails otherwise.
+    /// The columns of that constraint, or the columns in which a row fails for another reason.
     pub columns: Vec<String<Memory>, Memory>,
     /// The number of that row among the rows of an INSERT, counted from 1.
     pub row: Option<u64>,
@@ -39,7 +39,7 @@ impl Drop for Detail {
 }
 
 impl Detail {
-    /// Returns the detail of which these words alone are known.
+    /// Returns a detail that has only these words.
     pub fn of(words: String<Memory>) -> Detail {
         let memory = *words.allocator();
         Detail {
@@ -52,28 +52,28 @@ impl Detail {
         }
     }
 
-    /// Sets the hint. The only error is a refused allocation, which leaves the detail as it was.
+    /// Sets the hint. The only error is a refused allocation, which leaves the detail unchanged.
     pub fn advise(&mut self, hint: &str) -> Result<(), AllocError> {
         self.hint = Some(String::from_str(*self.words.allocator(), hint)?);
         Ok(())
     }
 
-    /// Adds the name of a column. The only error is a refused allocation, which leaves the detail as it was.
+    /// Adds a column name. The only error is a refused allocation, which leaves the detail unchanged.
     pub fn add_column(&mut self, name: &str) -> Result<(), AllocError> {
         let name = String::from_str(*self.words.allocator(), name)?;
         self.columns.push(name)?;
         Ok(())
     }
 
-    /// Moves the place from a statement's text to the script, in which the text begins on this line, after this number
-    /// of its characters.
+    /// Moves the place from the text of a statement to the script. The text begins on line `line`, after `before`
+    /// characters of that line.
     pub fn stand_behind(&mut self, line: u64, before: u64) {
         if let Some(place) = self.place {
             self.place = Some(place.within(line, before));
         }
     }
 
-    /// Returns the same detail in this memory. The only error is a refused allocation.
+    /// Returns a copy of the detail in `memory`. The only error is a refused allocation.
     pub fn copied(&self, memory: Memory) -> Result<Detail, AllocError> {
         let mut copy = Detail::of(String::from_str(memory, self.words.as_str())?);
         copy.place = self.place;

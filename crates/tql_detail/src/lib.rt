@@ -1,4 +1,4 @@
-//! What is told of a refused statement beside the refusal itself.
+//! Details of a refused statement, in addition to the refusal itself.
 #![tactic(auto)]
 
 pub mod detail;

@@ -1,11 +1,11 @@
 //! Places in a script, or in a part of it.
 
-/// Whether a byte is the first one of a character of UTF-8.
+/// Whether a byte is the first byte of a UTF-8 character.
 fn begins_character(byte: u8) -> bool {
     byte & 0xc0 != 0x80
 }
 
-/// A line, and a character in it. Both are counted from 1, and stay at 2^64 - 1.
+/// A line and a character in it, both counted from 1. Both saturate at 2^64 - 1.
 #[derive(Clone, Copy, PartialEq, Eq, Debug)]
 pub struct Place {
     pub line: u64,
@@ -13,12 +13,12 @@ pub struct Place {
 }
 
 impl Place {
-    /// The first place of a text.
+    /// Returns the first place of a text.
     pub fn first() -> Place {
         Place { line: 1, column: 1 }
     }
 
-    /// The place behind a byte that stands here.
+    /// Returns the place after a byte at this place.
     fn next(self, byte: u8) -> Place {
         if byte == b'\n' {
             Place {
@@ -35,7 +35,7 @@ impl Place {
         }
     }
 
-    /// The place behind these bytes, which stand at the front of a text.
+    /// Returns the place after these bytes, which are a prefix of a text.
     pub fn behind(bytes: &[u8]) -> Place {
         let mut place = Place::first();
         for byte in bytes {
@@ -44,8 +44,8 @@ impl Place {
         place
     }
 
-    /// Where a place of a text stands in a script in which the text begins on this line, behind so many characters of
-    /// it.
+    /// Returns this place of a text as a place in the script. The text begins on line `line`, after `before` characters
+    /// of that line.
     pub fn within(self, line: u64, before: u64) -> Place {
         let column = if self.line == 1 {
             self.column.saturating_add(before)

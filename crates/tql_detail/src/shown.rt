@@ -2,13 +2,13 @@
 use std::alloc::AllocError;
 use tql_memory::Memory;
 
-/// The words of a line, while they are put together.
+/// The words of a line under construction.
 pub type Words = String<Memory>;
 
-/// The most characters of a text that are shown.
+/// The maximum number of characters of a text that are shown.
 const MOST_SHOWN: usize = 40;
 
-/// What stands for a character in a line: itself, or `?` for one that a terminal may take for an order.
+/// Returns the character as shown in a line: itself, or `?` for a control character, which a terminal might interpret.
 fn shown(character: char) -> char {
     match character {
         '\0'..='\u{1f}' | '\u{7f}'..='\u{9f}' => '?',
@@ -16,7 +16,7 @@ fn shown(character: char) -> char {
     }
 }
 
-/// Puts a text behind the words, as it is shown: its first 40 characters, and two dots where there are more.
+/// Appends a text as shown: its first 40 characters, and two dots if there are more.
 pub fn push_shown(words: &mut Words, text: &str) -> Result<(), AllocError> {
     let mut left = MOST_SHOWN;
     for character in text.chars() {
@@ -30,7 +30,7 @@ pub fn push_shown(words: &mut Words, text: &str) -> Result<(), AllocError> {
     Ok(())
 }
 
-/// Puts words and a text behind the others, the text as it is shown.
+/// Appends `before`, then a text as shown.
 pub fn push_behind(words: &mut Words, before: &str, text: &str) -> Result<(), AllocError> {
     words.push_str(before)?;
     push_shown(words, text)

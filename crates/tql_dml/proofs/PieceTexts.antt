@@ -78,7 +78,7 @@ start_prints d a row other q ends h k p from to = by_kinds (column_kind d a.star
     by_kinds Moments Texts s e t = absurd (cc)
     by_kinds Moments Days s e t = absurd (cc)
 
--- a row with such a period
+-- a row whose period is replaced by a period within it has only printable values
 within_prints : (d : TableDef) → IsTypedDefinition d → (row other : Row) → IsRight d row → IsRight d other
     → (p : Period) → LiesWithin (period_of d row) p
     → All IsPrintable (with_period d p other)

@@ -1,4 +1,4 @@
--- The widths of rows, stored and full, and of those that replace others; and the faults of rows of the right width.
+-- The widths of stored rows, of full rows and of replacement rows; and the faults of rows of the right width.
 use Rattle.std.specs.Prelude.{◌≡◌, refl, ℕ, ◌+◌, ◌<◌, ◌≤◌, ◌≢◌, ℤ, Bool, true, false, nat_lt, List, [], ◌∷◌, ◌++◌}
 use Rattle.std.specs.Prelude.{map, length, insert, All, Option, Some, None, ⊤, if◌then◌else◌}
 use Rattle.std.specs.List.{flat_map, AllByRecursion}

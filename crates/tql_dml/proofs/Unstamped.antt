@@ -51,7 +51,7 @@ an_end columns system i h =
       stored = not_is (has_number i (generated_columns system)) all.2;
     }
 
--- both columns are such
+-- both columns are ends of an application period
 pub record AreEnds (columns : List Column) (system : Option System) (a : Application) : Type 0 where
   pub start : IsEnd columns system a.start
   pub end : IsEnd columns system a.end

@@ -88,7 +88,7 @@ abbrev pub coming : Option (List Fate) → List Stamped
 coming None = []
 coming (Some fs) = change.new_rows fs
 
--- whether an answer is there and is yes
+-- whether there is an answer, and it is yes
 abbrev pub is_yes : Option Bool → Bool
 is_yes None = false
 is_yes (Some b) = b
@@ -103,8 +103,8 @@ pub record IsVersionOf (d : TableDef) (v : Version) : Type 0 where
   pub cells : IsRowOf d (version_of v).row.cells
   pub start : IsMoment v.start
 
--- the values of the rows are of their columns' kinds, and so are those that the change gives; a change of a portion
--- gives none to the columns of the period
+-- the values of the rows, and the values that the change assigns, have their columns' kinds; a change of a portion
+-- assigns none to the columns of the period
 pub record IsTypedFor (d : TableDef) (found : List Version) (portion : Option Period) (work : Work) : Type 0 where
   pub definition : IsTypedDefinition d
   pub gives : IsTypedWork d portion work

@@ -14,20 +14,20 @@ abbrev pub reaches : TableDef → Option Period → Row → Bool
 reaches d None row = true
 reaches d (Some portion) row = share_a_point (period_of d row) portion
 
--- a row for a period, or as it is
+-- a row with its period replaced, or unchanged if no period is given
 abbrev pub within : TableDef → Option Period → Row → Row
 within d None row = row
 within d (Some p) row = with_period d p row
 
--- a row's old values, for each of these periods
+-- a row with its old values, once for each of these periods
 abbrev pub left : TableDef → Row → List Period → List Row
 left d row ps = map (λ p. with_period d p row) ps
 
--- the stored cells of these
+-- the stored cells of these rows
 abbrev pub left_cells : TableDef → Row → Option code.Period → List Row
 left_cells d row part = map (without_generated d.system) (left d row (points_of_piece part))
 
--- the stored cells of a new row, for a period or as it is
+-- the stored cells of a new row, with its period replaced if one is given
 abbrev pub stored_of : TableDef → Option Period → Option Row → Option Row
 stored_of d part made = made >>= λ row. Some (without_generated d.system (within d part row))
 

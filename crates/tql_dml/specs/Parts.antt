@@ -20,12 +20,12 @@ pub record Parts : Type 0 where
 abbrev pub no_part : Parts
 no_part = record { gone = []; come = [] }
 
--- these before the others, if those are in range
+-- the first effect followed by the second; None if the second is out of range
 abbrev pub before : Parts → Option Parts → Option Parts
 before p None = None
 before p (Some q) = Some (record { gone = p.gone ++ q.gone; come = p.come ++ q.come })
 
--- these rows are added too, if they are in range
+-- the effect with more added rows; None if these are out of range
 abbrev pub with_rows : Parts → Option (List Row) → Option Parts
 with_rows p None = None
 with_rows p (Some rows) = Some (record { gone = p.gone; come = p.come ++ rows })

@@ -1,4 +1,4 @@
--- A run over a source and a sink agrees with what is said of the machine's runs.
+-- A run over a source and a sink satisfies the laws about runs of the reference model.
 use Rattle.std.proofs.Common.{List, true, false, Ok, Err}
 use Rattle.std.specs.Prelude.{Bool, MatchBool, Result}
 use Rattle.tql_spec.specs.Answer.{Answer}

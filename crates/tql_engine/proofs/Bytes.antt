@@ -21,7 +21,7 @@ use Rattle.tql_run.specs.Ending.{AllEndSurely, Responds}
 
 -- ---- replies
 
--- answers that are the machine's replies
+-- answers that are the replies of the reference model
 pub record Replying (old : State) (pieces : List Piece) (answers : List Answer) (new : State) : Type 0 where
   pub replies : List Reply
   pub all : answers ≡ map Replied replies
@@ -43,12 +43,12 @@ replying old (p ∷ ps) (Accepted ∷ xs) new (mid, a, r) = absurd a
 replying old [] (x ∷ xs) new r = absurd r
 replying old (p ∷ ps) [] new r = absurd r
 
--- their texts
+-- the texts of the answers are those of the replies
 texts_are : (replies : List Reply) → answers_text (map Replied replies) ≡ replies_text replies
 texts_are [] = refl
 texts_are (r ∷ rs) = ap (λ (l : List ℕ). reply_text r ++ l) (texts_are rs)
 
--- ---- what a source and a sink over memory show
+-- ---- a source and a sink over memory
 
 -- the source had these bytes, and cannot fail
 pub record InMemory (script : List ℕ) (source : SourceChange) : Type 0 where
@@ -60,7 +60,7 @@ pub record InMemory (script : List ℕ) (source : SourceChange) : Type 0 where
 some_inj : {X : Type 0} (x y : X) → Some x ≡ Some y → x ≡ y
 some_inj x y e = cc
 
--- where the end was met the script is all of them
+-- if the source reached its end, the script is all that was read
 whole_read : (script read : List ℕ) (source : SourceChange) → InMemory script source
     → Gives source.left_old read source.left_new → MeetsEnd source → read ≡ script
 whole_read script read source m g e =
@@ -68,7 +68,7 @@ whole_read script read source m g e =
     let none = e.at_end.nothing told.0 told.2 in
     sym (told.1 ∙ ap (λ (l : List ℕ). read ++ l) none ∙ append-nil read)
 
--- the end is met
+-- the source always reaches its end
 ended : (script read : List ℕ) (source : SourceChange) → InMemory script source
     → Gives source.left_old read source.left_new → MissesEnd source read → ⊥
 ended script read source m g e = by_cause e.cause
@@ -90,7 +90,7 @@ no_flush_fails : (b : Bool) → IsFalse b → IsTrue b → ⊥
 no_flush_fails true never fails = cc
 no_flush_fails false never fails = cc
 
--- the output is what the sink holds
+-- the output is the content of the sink
 grown : (old new text : List ℕ) (sink : SinkChange) → sink.held_old ≡ Some old → sink.held_new ≡ Some new
     → Appends sink.held_old text sink.held_new → new ≡ old ++ text
 grown old new text sink before now a = some_inj new (old ++ text) (sym now ∙ a.holds old before)
@@ -121,7 +121,7 @@ module _ (s : State) (after : Standing) (script old new : List ℕ) (source : So
         counts = subst (λ (x : List Answer). Counts summary x) p.all r.counts;
       }
 
-  -- what follows what was read
+  -- the run stopped at an answer that the sink did not take whole
   stopped : (r : run.StopsWriting Responds s after source sink hearing) → StopsWriting s after script old new
   stopped r =
       let told = r.given.told script m.had in
@@ -151,7 +151,7 @@ module _ (s : State) (after : Standing) (script old new : List ℕ) (source : So
       cut replies all (inl c) = subst (λ (x : List Answer). CutsLast x r.text) all c
       cut replies all (inr (none, is, fails)) = absurd (no_flush_fails sink.flushes_fail never fails)
 
-  -- what a run over memory leaves
+  -- the result of a run over memory
   pub runs_bytes : (result : Result Summary Fault) → Runs Responds s after source sink hearing result
       → RunsBytes s after script old new result
   runs_bytes (Ok summary) r = whole summary r

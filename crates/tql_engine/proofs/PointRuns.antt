@@ -1,4 +1,4 @@
--- Runs and steps of an engine agree with the machines of all points.
+-- Runs and steps of an engine agree with the reference models of all points.
 use Rattle.std.proofs.Common.{refl, sym, subst, ℕ, List, [], ◌∷◌, map, Ok, Err}
 use Rattle.std.specs.Prelude.{Result}
 use Rattle.tql_spec.specs.Machine.{State, Reply}

@@ -22,7 +22,7 @@ use Rattle.tql_engine.proofs.PointRuns.{steps_run}
 
 -- ---- a run and its parts
 
--- two runs, one behind the other
+-- two runs, the second after the first
 run_on : (first : List Piece) (heard : List Reply) (old mid new : State) (more : List Piece) (told : List Reply)
     → Run old first heard mid → Run mid more told new → Run old (first ++ more) (heard ++ told) new
 run_on [] [] old mid new more told r k = subst (λ s. Run s more told new) r k
@@ -50,7 +50,7 @@ cut_at (f ∷ fs) (h ∷ hs) old new p r more told e (mid, a, on) =
     let k = cut_at fs hs mid new p r more told (omega (arith, e)) on in
     record { before = k.before; ran = (mid, a, k.ran); behind = k.behind; answers = k.answers; on = k.on }
 
--- a piece that says a statement is answered as the machine responds to it, unless memory is out
+-- a piece that says a statement is answered as the reference model responds to it, unless an allocation is refused
 responded : SensesAreOne → (old new : State) (p : Piece) (t : Statement) (r : Reply) → HasSense p (Says t)
     → (r ≡ Refused OutOfMemory → ⊥) → Answers old p r new → ◌≡◌ {A = Reply × State} (r, new) (respond old t)
 responded one old new p t r says memory (inl (sense, has, e)) =
@@ -133,7 +133,7 @@ bytes_stable law s after script old new (Err Write) w = (w, law s w.state w.done
 bytes_stable law s after script old new (Err Memory) w = w.1
 bytes_stable law s after script old new (Err Read) w = w.1
 
--- what an output tells is a run
+-- the pieces and replies of a run that wrote an output are a run of the reference model
 record IsRun (s : State) (pieces : List Piece) (replies : List Reply) : Type 0 where
   new : State
   ran : Run s pieces replies new
@@ -159,7 +159,7 @@ scripts_alike law s h h' script old new script' old' new' result result' ones ot
     let k' = tells_run s (StandsFor h') script' old' new' result' others replies' t' in
     law s k.new k'.new ones others replies replies' k.ran k'.ran
 
--- ---- statements one by one
+-- ---- single statements
 
 pub steps_stable : RunsReadStably → StepsReadStably
 steps_stable law old new texts replies e s st =

@@ -1,4 +1,4 @@
--- Keys and references hold at every point behind each run, where they held before it.
+-- Keys and references hold at every point after each run, if they held before it.
 use Rattle.std.proofs.Common.{subst, sym, ℕ, List, [], ◌∷◌, Ok, Err}
 use Rattle.std.proofs.Common.{true, false}
 use Rattle.std.specs.Prelude.{Result, Bool, MatchBool}
@@ -21,7 +21,7 @@ use Rattle.tql_engine_step.specs.HoldPoints.{HoldsFor}
 use Rattle.tql_engine_state.specs.Stands.{EngineModel, StandsFor}
 use Rattle.tql_engine_step.proofs.HoldPoints.{keeps_one}
 
--- replies one behind another
+-- a list of replies
 keeps_all : (old new : State) (pieces : List Piece) (answers : List Answer) → HoldAtPoints old
     → RunBy Responds old pieces answers new → HoldAtPoints new
 keeps_all old new [] [] h r = subst HoldAtPoints (sym r) h

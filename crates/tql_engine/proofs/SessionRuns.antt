@@ -1,4 +1,4 @@
--- A session over an engine is a run, and keys and references hold behind each of its calls.
+-- A session over an engine is a run, and keys and references hold after each of its calls.
 use Rattle.std.proofs.Common.{◌≡◌, refl, sym, ap, subst, ◌∙◌, ℕ, List, [], ◌∷◌, ◌++◌, map, Some, None}
 use Rattle.std.proofs.lemmas.List.{append_assoc, append-nil}
 use Rattle.std.specs.Prelude.{IsTrue}
@@ -20,7 +20,7 @@ use Rattle.tql_engine.specs.ReaderRuns.{RunsReadStably}
 use Rattle.tql_engine.specs.Sessions.{Call, Feed, Finish, Next, Calls, fed, given, SessionsHold}
 use Rattle.tql_engine_state.specs.Stands.{EngineModel, StandsFor}
 
--- once the end was told no bytes come
+-- after the end is reported, no bytes come
 record IsOver (calls : List Call) (new : Stream) : Type 0 where
   none : fed calls ≡ []
   ended : IsTrue new.ended
@@ -40,14 +40,14 @@ over (Next (Some answer) ∷ cs) old new before after (mid, (between, (turn, res
     let o = over cs mid new between after rest (subst IsTrue (sym turn.one.ended) t) in
     record { none = o.none; ended = o.ended }
 
--- so what may follow all calls may follow the bytes that they feed
+-- bytes that may follow all calls may follow the bytes that they feed
 may_follow : (calls : List Call) (old new : Stream) (before after : EngineModel) → Calls calls old before new after
     → (more : List ℕ) → MayFollow new.ended more → MayFollow old.ended (fed calls ++ more)
 may_follow calls old new before after turns more m t =
     let o = over calls old new before after turns t in
     ap (λ bs. bs ++ more) o.none ∙ m o.ended
 
--- calls from anywhere in a session on: the answers are those of the first statements of what is left and is fed
+-- calls from any point of a session on: the answers are those of the first statements of what is left and is fed
 record RanOn (s : State) (ahead : List ℕ) (calls : List Call) (stream : Stream) (after : EngineModel) : Type 0 where
   done : List Piece
   left : List ℕ

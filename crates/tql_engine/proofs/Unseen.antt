@@ -1,4 +1,4 @@
--- What a run over bytes in memory prunes is not seen in its other answers.
+-- The pruning of a run over bytes in memory is not visible in its other answers.
 use Rattle.std.proofs.Common.{ℕ, List, Ok, Err}
 use Rattle.std.specs.Prelude.{Result}
 use Rattle.tql_spec.specs.HorizonLaws.{PrunesAreUnseen}

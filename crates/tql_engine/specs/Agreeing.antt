@@ -1,4 +1,4 @@
--- What ran on an engine, over a source and a sink, agrees with what is said of the machine's runs.
+-- The laws about runs of the reference model, for a run on an engine over a source and a sink.
 use Rattle.std.specs.Prelude.{◌≡◌, List, map, Bool, true, false, MatchBool, Result, Ok, Err}
 use Rattle.tql_spec.specs.Answer.{Answer, Replied}
 use Rattle.tql_spec.specs.HorizonLaws.{RunsWithout, other_pieces, other_replies}
@@ -17,9 +17,9 @@ use Rattle.tql_run.specs.declared.runner.Fault.{Fault}
 use Rattle.tql_run.specs.declared.runner.Fault.TheVariants.{Read, Write, Memory}
 use Rattle.tql_engine.specs.ReaderRuns.{ReadsStably}
 
--- The answers to these pieces are replies: they agree with the machines of all points; each READ has the reply that its
--- query would have had at the opening; and without the pieces that pruned, or were refused for the horizon, all others
--- are answered the same.
+-- The answers to these pieces are replies, and agree with the reference models of all points. Each READ has the reply
+-- that its query would have had when the reader was opened. Without the pieces that pruned, or were refused for the
+-- horizon, all others are answered the same.
 pub record Agrees (s : State) (pieces : List Piece) (answers : List Answer) (new : State) : Type 0 where
   pub replies : List Reply
   pub all : answers ≡ map Replied replies
@@ -27,8 +27,8 @@ pub record Agrees (s : State) (pieces : List Piece) (answers : List Answer) (new
   pub readers : ReadsStably s pieces replies
   pub unseen : IsInOrder s → RunsWithout s (other_pieces pieces replies) (other_replies replies) new
 
--- by the result of a run, written so and stopped by a refusal or not: of the pieces that ran, the whole run's or those
--- of the one that stopped; else nothing ran
+-- by the result of a run in this style, which stops at a refusal or not: the laws for the pieces that ran, in a whole
+-- run or a stopped one; else nothing ran
 abbrev pub RunsAgreeing : Style → (bail : Bool) → State → Standing → Written → SourceChange → SinkChange
     → HearingChange → Result Summary Fault → Type 0
 RunsAgreeing style bail s after form source sink hearing (Ok summary) = MatchBool (stops bail summary)

@@ -1,4 +1,4 @@
--- What a run over bytes in memory leaves: the output, and the state that the engine stands for.
+-- The result of a run over bytes in memory: the output, and the state that the engine represents.
 use Rattle.std.specs.Prelude.{◌≡◌, ◌<◌, ◌≤◌, ℕ, List, ◌++◌, length, map, Result, Ok, Err}
 use Rattle.tql_spec.specs.Machine.{State, Reply}
 use Rattle.tql_spec.specs.Answer.{Replied}
@@ -11,7 +11,7 @@ use Rattle.tql_run.specs.declared.runner.Fault.{Fault}
 use Rattle.tql_run.specs.declared.runner.Fault.TheVariants.{Read, Write, Memory}
 use Rattle.tql_run.specs.Ending.{AllEndSurely}
 
--- the whole script ran: the output is what it was, and behind it what the script writes
+-- the whole script ran: what the script writes is appended to the output
 pub record WritesWhole (s : State) (after : Standing) (script old new : List ℕ) (summary : Summary) : Type 0 where
   pub state : State
   pub stands : after state
@@ -21,8 +21,8 @@ pub record WritesWhole (s : State) (after : Standing) (script old new : List ℕ
   pub behind : new ≡ old ++ pushed
   pub counts : Counts summary (map Replied writes.0)
 
--- the output could not grow: the statement of the reply that it did not take whole is the last that ran; behind what
--- the output was stand the replies before that one, and a beginning of it that is not all of it
+-- the output could not grow: the last statement that ran is the one whose reply did not fit; the replies before that
+-- one are appended to the output, and then a part of it that is not all of it
 pub record StopsWriting (s : State) (after : Standing) (script old new : List ℕ) : Type 0 where
   pub done : List Piece
   pub rest : List Piece
@@ -36,7 +36,7 @@ pub record StopsWriting (s : State) (after : Standing) (script old new : List �
   pub cut : CutsLast (map Replied replies) pushed
   pub behind : new ≡ old ++ pushed
 
--- by its result; a script in memory is read to its end, unless it has 2^48 - 1 bytes or more: then nothing ran
+-- by the result; a script in memory is read to its end, unless it has 2^48 - 1 bytes or more: then nothing ran
 abbrev pub RunsBytes : State → Standing → (script old new : List ℕ) → Result Summary Fault → Type 0
 RunsBytes s after script old new (Ok summary) = WritesWhole s after script old new summary
 RunsBytes s after script old new (Err Write) = StopsWriting s after script old new

@@ -1,4 +1,4 @@
--- What runs and steps of an engine say of single points.
+-- Runs and steps of an engine, at single points of time.
 use Rattle.std.specs.Prelude.{◌≡◌, ℕ, List, [], ◌∷◌, map, Result, Ok, Err}
 use Rattle.tql_spec.specs.Machine.{State, Reply}
 use Rattle.tql_spec.specs.Script.{statements}
@@ -13,8 +13,8 @@ use Rattle.tql_engine_state.specs.Stands.{EngineModel, StandsFor}
 
 -- ---- a script in memory
 
--- by the result of its run: the run of which the output tells agrees with the machines of all points, the whole one or
--- the one that stopped; else nothing ran
+-- by the result of the run: the run that wrote the output, whole or stopped, agrees with the reference models of all
+-- points; else nothing ran
 abbrev pub BytesAgreeAtPoints : State → Standing → (script old new : List ℕ) → Result Summary Fault → Type 0
 BytesAgreeAtPoints s after script old new (Ok summary) =
     (w : WritesWhole s after script old new summary) × AgreesAtPoints s (statements script) w.writes.0 w.state
@@ -23,9 +23,9 @@ BytesAgreeAtPoints s after script old new (Err Write) =
 BytesAgreeAtPoints s after script old new (Err Memory) = after s
 BytesAgreeAtPoints s after script old new (Err Read) = after s
 
--- ---- statements one by one
+-- ---- single statements
 
--- an engine given texts one after another, and its replies: each step as the clause `answered` of `Engine::step` says
+-- an engine that is given texts in order, and its replies; each step is as the clause `answered` of `Engine::step` says
 abbrev pub Steps : EngineModel → List (List ℕ) → List Reply → EngineModel → Type 0
 Steps old [] [] new = new ≡ old
 Steps old (text ∷ texts) (reply ∷ replies) new =
@@ -34,14 +34,14 @@ Steps old (text ∷ texts) (reply ∷ replies) new =
     × Steps mid texts replies new
 Steps old _ _ new = ⊥
 
--- they are a run of the machine, and it agrees with the machines of all points
+-- they are a run of the reference model, and it agrees with the reference models of all points
 pub record StepsAgree (s : State) (texts : List (List ℕ)) (replies : List Reply) (new : EngineModel) : Type 0 where
   pub state : State
   pub stands : StandsFor new state
   pub ran : Run s (map finished texts) replies state
   pub agrees : AgreesAtPoints s (map finished texts) replies state
 
--- the law: so it is from every state for which the engine stands
+-- the law: this is so from every state that the engine represents
 abbrev pub StepsAgreeAtPoints : Type 0
 StepsAgreeAtPoints =
     (old new : EngineModel) (texts : List (List ℕ)) (replies : List Reply) → Steps old texts replies new

@@ -1,4 +1,4 @@
--- What a host does with a session over an engine, and what the engine then stands for.
+-- The calls that a host makes to a session over an engine, and the state that the engine represents after them.
 use Rattle.std.specs.Prelude.{◌≡◌, ℕ, List, [], ◌∷◌, ◌++◌, map, Option, Some, None}
 use Rattle.tql_spec.specs.Answer.{Answer, Replied}
 use Rattle.tql_spec.specs.HorizonLaws.{RunsWithout, other_pieces, other_replies}
@@ -19,19 +19,19 @@ use Rattle.tql_engine_step.specs.HoldPoints.{HoldsFor}
 use Rattle.tql_engine.specs.ReaderRuns.{ReadsStably}
 use Rattle.tql_engine_state.specs.Stands.{EngineModel, StandsFor}
 
--- a call of a session, and what came of it: these bytes were taken; the end was told; the next answer, or none
+-- a call of a session and its result: these bytes were taken; the end was reported; the next answer, or none
 pub data Call : Type 0 where
   Feed : List ℕ → Call
   Finish : Call
   Next : Option code.Answer → Call
 
--- one call, as the clauses of `Session::feed`, `finish` and `next_answer` tell it; once the end was told no bytes come
+-- one call, as the clauses of `Session::feed`, `finish` and `next_answer` say; after the end is reported, no bytes come
 abbrev pub Turns : Call → (old : Stream) → (before : EngineModel) → (new : Stream) → (after : EngineModel) → Type 0
 Turns (Feed bytes) old before new after = Feeds old new bytes × MayFollow old.ended bytes × (after ≡ before)
 Turns Finish old before new after = Finishes old new × (after ≡ before)
 Turns (Next answer) old before new after = AnswersNext Responds answer old new (StandsFor before) (StandsFor after)
 
--- calls one after another
+-- calls in order
 abbrev pub Calls : List Call → (old : Stream) → (before : EngineModel) → (new : Stream) → (after : EngineModel)
     → Type 0
 Calls [] old before new after = (new ≡ old) × (after ≡ before)
@@ -53,10 +53,11 @@ given (Finish ∷ cs) = given cs
 given (Next None ∷ cs) = given cs
 given (Next (Some answer) ∷ cs) = answer_of answer ∷ given cs
 
--- The answers are the machine's replies to the first statements of what was fed, whatever may follow it; the engine
--- stands for the state behind them, in whose copies, the working one too, keys and references hold at every point; they
--- agree with the machines of all points; each READ has the reply that its query would have had at the opening; and
--- without the statements that pruned, or were refused for the horizon, all others are answered the same.
+-- The answers are the replies of the reference model to the first statements of what was fed, whatever may follow it.
+-- The engine represents the state after them; in each of its copies, also the working one, keys and references hold at
+-- every point. The replies agree with the reference models of all points. Each READ has the reply that its query would
+-- have had at the opening. Without the statements that pruned, or were refused for the horizon, all others are answered
+-- the same.
 pub record SessionRan (s : State) (calls : List Call) (stream : Stream) (after : EngineModel) : Type 0 where
   pub done : List Piece
   pub left : List ℕ
@@ -72,7 +73,7 @@ pub record SessionRan (s : State) (calls : List Call) (stream : Stream) (after :
   pub readers : ReadsStably s done replies
   pub unseen : IsInOrder s → RunsWithout s (other_pieces done replies) (other_replies replies) state
 
--- the law: so it is behind each call of a new session, from every state of which keys and references hold so
+-- the law: this is so after each call of a new session, from every state in which keys and references hold
 abbrev pub SessionsHold : Type 0
 SessionsHold =
     (old new : Stream) (before after : EngineModel) (calls : List Call) → Holds old [] []

@@ -1,4 +1,4 @@
--- What a run over bytes in memory answers, but for what it prunes.
+-- The answers of a run over bytes in memory, apart from pruning.
 use Rattle.std.specs.Prelude.{ℕ, List, Result, Ok, Err}
 use Rattle.tql_spec.specs.HorizonLaws.{RunsWithout, other_pieces, other_replies}
 use Rattle.tql_spec.specs.Machine.{State}
@@ -9,8 +9,8 @@ use Rattle.tql_run.specs.declared.runner.Fault.{Fault}
 use Rattle.tql_run.specs.declared.runner.Fault.TheVariants.{Read, Write, Memory}
 use Rattle.tql_engine.specs.Bytes.{WritesWhole, StopsWriting}
 
--- by the result of the run: of the run of which the output tells, the statements that neither pruned nor were refused
--- for the horizon are a run with the same replies, to a state that has only kept more; else nothing ran
+-- by the result of the run: without the statements that pruned, or were refused for the horizon, the run that wrote the
+-- output is a run with the same replies; its state has only kept more; else nothing ran
 abbrev pub BytesPruneUnseen : State → Standing → (script old new : List ℕ) → Result Summary Fault → Type 0
 BytesPruneUnseen s after script old new (Ok summary) =
     (w : WritesWhole s after script old new summary)

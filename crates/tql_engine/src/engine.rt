@@ -1,3 +1,3 @@
-//! The engine by which statements are answered, one by one.
+//! The engine, which answers statements in the order in which they are given.
 
 pub use tql_engine_step::engine::Engine;

@@ -1,4 +1,4 @@
-//! Runs and sessions over an engine, and what is promised of them.
+//! Runs and sessions over an engine, and their guarantees.
 #![tactic(auto)]
 
 pub mod engine;

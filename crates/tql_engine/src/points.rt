@@ -1,11 +1,11 @@
 //! Snapshot reducibility: for each point of time, an engine does what one without periods would do.
 ghost use Rattle.tql_engine.specs.PointRuns.{StepsAgreeAtPoints};
 
-/// Statements given to `Engine::step` in order agree with the reference models of all points of time, if the first of
-/// them create tables in scope and the later ones are in scope. A statement that is done is done by the model of each
-/// point. A change that binds without a fault, and is not refused for memory, is refused as the first of these models
-/// refuses it. After each reply, the slice of every table at a point, now and as of each moment, is what the model of
-/// that point answers.
+/// Statements given to `Engine::step` in order agree with the reference models of all points of time. This requires
+/// that the first ones create tables in scope, and that the later ones are in scope. A statement that is done is done
+/// by the model of each point. A change that binds without a fault, and is not refused for memory, is refused as the
+/// first of these models refuses it. After each reply, the slice of every table at a point, now and as of each moment,
+/// is what the model of that point answers.
 pub fn steps_agree_at_points()
     ensures { StepsAgreeAtPoints }
 {}

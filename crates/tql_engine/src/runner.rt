@@ -46,17 +46,17 @@ const TOO_MANY_BYTES: usize = MOST_PULLS as usize;
 /// # Errors
 ///
 /// `Read` if the source fails: the statements that were complete before have run. `Write` if the sink fails: no
-/// statement runs after the one whose reply it did not take. `Memory` only for what a run allocates at its start; a
-/// statement that finds no memory is refused.
+/// statement runs after the one whose reply it did not take. `Memory` only if an allocation at the start of the run is
+/// refused; a statement that finds no memory is refused.
 ///
-/// # What is proved besides
+/// # Further guarantees
 ///
-/// Clause `agrees`: if its first statements create tables in scope and the later ones are in scope, the run does at
-/// each point of time what a reference model without periods does. A READ that is not refused for the horizon, the
-/// reader or memory has the reply that its query would have had when the reader was opened, whatever was written since.
-/// Pruning is not visible: without the statements that pruned, or were refused for the horizon, all others have the
-/// same replies. Clause `holds`: if keys and references hold at every point of time in each copy of the reference
-/// model, they still do after the run.
+/// Clause `agrees`: at each point of time, the run does what a reference model without periods does. This requires that
+/// its first statements create tables in scope, and that the later ones are in scope. A READ has the reply that its
+/// query would have had when the reader was opened, whatever was written since, unless it is refused for the horizon,
+/// the reader or memory. Pruning is not visible: without the statements that pruned, or were refused for the horizon,
+/// all others have the same replies. Clause `holds`: if keys and references hold at every point of time in each copy of
+/// the reference model, they still do after the run.
 pub fn run_in<I: IntervalIndex, S: Source<O>, O: Sink, L: Listener, F: Form>(
     engine: &mut Engine<I>,
     source: &mut S,
@@ -117,18 +117,18 @@ pub fn run<I: IntervalIndex, S: Source<O>, O: Sink, L: Listener>(
 ///
 /// # Errors
 ///
-/// `Write` if the output finds no memory for a reply: no statement runs after that one, and it is never said if the
-/// output has all replies whole. `Memory` if there is none for what a run allocates at its start: nothing runs. `Read`
-/// if, and only if, the script has 2^48 - 1 bytes or more: nothing runs.
+/// `Write` if the output finds no memory for a reply: no statement runs after that one. It is never returned if the
+/// output has all replies whole. `Memory` if an allocation at the start of the run is refused: nothing runs. `Read` if,
+/// and only if, the script has 2^48 - 1 bytes or more: nothing runs.
 ///
-/// # What is proved besides
+/// # Further guarantees
 ///
-/// Clause `points`: if its first statements create tables in scope and the later ones are in scope, the run does at
-/// each point of time what a reference model without periods does. Clause `unseen`: without the statements that pruned,
-/// or were refused for the horizon, all others have the same replies. Clause `readers`: a READ that is not refused for
-/// the horizon, the reader or memory has the reply that its query would have had when the reader was opened, by this
-/// run or an earlier one, whatever was written since. Clause `holds`: if keys and references hold at every point of
-/// time in each copy of the reference model, they still do after the run.
+/// Clause `points`: at each point of time, the run does what a reference model without periods does. This requires that
+/// its first statements create tables in scope, and that the later ones are in scope. Clause `unseen`: without the
+/// statements that pruned, or were refused for the horizon, all others have the same replies. Clause `readers`: a READ
+/// has the reply that its query would have had when the reader was opened, by this run or an earlier one, whatever was
+/// written since. A READ that is refused for the horizon, the reader or memory is excepted. Clause `holds`: if keys and
+/// references hold at every point of time in each copy of the reference model, they still do after the run.
 pub fn run_bytes<I: IntervalIndex>(
     engine: &mut Engine<I>,
     script: &[u8],

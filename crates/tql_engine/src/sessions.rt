@@ -1,5 +1,5 @@
-//! What is proved of a session over an engine: its answers are those of a run, and keys and references hold after each
-//! of them.
+//! The guarantees of a session over an engine: its answers are those of a run, and keys and references hold after each
+//! call.
 ghost use Rattle.tql_engine.specs.Sessions.{SessionsHold};
 
 use crate::readers::readers_agree;

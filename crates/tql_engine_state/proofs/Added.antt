@@ -27,7 +27,7 @@ pub rows_begun : (d : TableDef) (m : ℤ) (columns : List ℕ) (values : Option 
 rows_begun d m columns None rows e = ap (begun_at m) e
 rows_begun d m columns (Some tuples) rows e = begun_so d m columns tuples ∙ ap (begun_at m) e
 
--- what it makes of a table with rows, if no evaluation is out of range: those rows, followed by the new ones
+-- its result for a table with rows, if no evaluation is out of range: those rows, followed by the new ones
 pub insert_outcome : (d : TableDef) (m : ℤ) (rows : List Stamped) (columns : List ℕ) (values : Option (List Row))
     → first (insert d m [] columns values).faults ≡ None
     → insert d m rows columns values ≡ record {

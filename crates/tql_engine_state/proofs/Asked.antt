@@ -134,7 +134,7 @@ module _ (p : TableDef) where
     found_fit (FromTo a b) es f = range_fit high still a b es still_in f
     found_fit (Between a b) es f = range_fit high still a (b +ℤ pos 1) es still_in f
 
--- ---- what an engine that represents a state finds
+-- ---- rows that an engine finds
 
 pub past_fit : (ps : List TableDef) (bound : ℤ) (es : List Entry) → bound ≤ℤ high → AreSince first_moment es
     → FallingFrom bound es → HistoryFits ps es → EntriesFit ps es

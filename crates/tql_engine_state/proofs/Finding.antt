@@ -100,7 +100,7 @@ each_reference x P k =
     members [] f = tt
     members (r ∷ rs) f = (f r (inl refl), members rs (λ q i. f q (inr i)))
 
--- each is to an existing table
+-- each references an existing table
 module _ (defs : List TableDef) where
   join_placed : (j : Join) → IsPlacedRef defs (ref_of j) → IsPlacedRef defs (joined_ref j)
   join_placed (Inner r on) h = h

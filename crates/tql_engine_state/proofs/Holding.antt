@@ -89,7 +89,7 @@ name_there (d ∷ defs) t n e =
 abbrev pub EachHolds : List TableDef → List Entry → Type 0
 EachHolds defs es = AllByRecursion (λ (e : Entry). CopyHolds defs e.copy) es
 
--- what CREATE and DROP do to every copy
+-- a change of every copy, as by CREATE and DROP, that keeps keys and references in each
 holds_in_each : (g : Copy → Copy) (defs new : List TableDef)
     → ((copy : Copy) → CopyHolds defs copy → CopyHolds new (g copy)) → (es : List Entry) → EachHolds defs es
     → EachHolds new (map (λ (e : Entry). record e { copy = g e.copy }) es)

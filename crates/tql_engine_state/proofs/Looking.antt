@@ -1,4 +1,4 @@
--- The rows that a change sees, and those that it reads. The others are not affected.
+-- The rows that a change sees, and the rows that it reads. The others are not affected.
 use Rattle.std.proofs.Common.{◌≡◌, refl, ap, sym, subst, ◌∙◌, arith, ℕ, Bool, true, false, cond, List, [], ◌∷◌, ◌++◌}
 use Rattle.std.proofs.Common.{map, filter, inl, inr, Option, Some, None}
 use Rattle.std.specs.Prelude.{ℤ, ◌≤ℤ◌, ◌<ℤ◌, ◌&&◌, IsNone, All, option_map, slice_get, if◌then◌else◌}

@@ -121,7 +121,7 @@ after_same : (m : ℤ) (gone : Stamped → Bool) (added : List Row) {xs ys : Lis
     → SameBag (rows_after m gone added xs) (rows_after m gone added ys)
 after_same m gone added k = same-append (same-filter (λ x. not (gone x)) k) (same-refl _)
 
--- the faults after a change are the same for the copies of two such states
+-- the faults after a change are the same for the copies of two states that the engine represents
 pub faults_agree : (h : EngineModel) (own s : State) (t : ℕ) (gone : Stamped → Bool) (added : List Row)
     (rows : List Stamped) → StandsFor h own → StandsFor h s
     → SameBag rows (rows_after (working_now s).moment gone added (working_rows s t))

@@ -84,7 +84,7 @@ module _ (law : SafeConditionsAreJudged) (no_order : ChangesKeepNoOrder) (by_par
   -- the outcome for the versions that were read
   module _ (o : Option Sought) (serves : ServesChange p.definition (portion_in x) (conds_in x) o)
       (are_shown : AreShown h.store p) (seen : List code.Version) (answers : IsSeen h p o seen) where
-    -- their rows, and those that were not read
+    -- their rows, and the rows that were not read
     abbrev all : List Stamped
     all = dml.rows_in seen ++ unseen_of o rows
 

@@ -1,5 +1,5 @@
--- The rows that are found in a table have all its columns. Their application period goes from one point to a later one
--- of the same type.
+-- The rows that are found in a table have all its columns. Their application period begins at one point and ends at a
+-- later one of the same type.
 use Rattle.std.proofs.Common.{◌≡◌, refl, sym, ap, subst, ◌∙◌, ℕ, ◌+◌, Bool, true, false, List, [], ◌∷◌, map, filter}
 use Rattle.std.proofs.Common.{length, Option, Some, None, inl, inr}
 use Rattle.std.specs.Prelude.{ℤ, ◌||◌, All, IsTrue, option_map, slice_get}

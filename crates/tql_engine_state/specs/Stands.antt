@@ -95,9 +95,9 @@ pub record StandsFor (h : EngineModel) (s : State) : Type 0 where
   pub count : table_count h.store ≡ length h.tables
   pub readers : AreReaders h.readers s
 
--- what is true of every engine: it represents some state of the reference model. In each copy of that, also the working
--- one, keys and references hold, and values have the types of their columns. So the ends of an application period are
--- points of its type
+-- the invariant of every engine: it represents some state of the reference model. In each copy of that, also the
+-- working one, keys and references hold, and values have the types of their columns. So the ends of an application
+-- period are points of its type
 pub record IsSound (h : EngineModel) : Type 0 where
   pub state : State
   pub stands : StandsFor h state

@@ -1,4 +1,4 @@
--- From what a query is bound to, or the fault of its binding, to what is told of its columns.
+-- From the bound query, or the fault of its binding, to the result for its columns.
 use Rattle.std.proofs.Common.{[], ◌≡◌, sym, ap, subst, ◌∙◌, ◌++◌, ℕ, List, map, true, inl, inr}
 use Rattle.std.specs.Prelude.{Option, Some, None, Result, Ok, Err, Vec}
 use Rattle.tql_spec.specs.Binding.{bind, select}
@@ -58,13 +58,13 @@ query_refused s t tree keys e is fault = record {
     asked (inl k) = ap is_query k
     asked (inr (n, k)) = ap is_query k
 
--- what a binding says of it
+-- a refusal by the binding is that of the statement
 pub binding_says : {A : Type 0} (view : A → machine.Bound) (s : State) (t : Statement) (e : Refusal)
     → Binds view (bound_here s t) (Err e) → IsBound s t (Err e)
 binding_says view s t r.OutOfMemory binds = tt
 binding_says view s t e binds = binds
 
--- a refusal by its binding
+-- a query that is refused by its binding
 pub binding_refused : (s : State) (t : Statement) (tree : SelectTree) (keys : List OrderTree) (e : Refusal)
     → Asks t tree keys → IsBound s t (Err e) → IsRefused s t e
 binding_refused s t tree keys r.OutOfMemory is fault = tt
@@ -89,14 +89,14 @@ says_refused : (s : State) (text : List ℕ) (t : Statement) (e : Refusal) → H
 says_refused s text t r.OutOfMemory sense refused = tt
 says_refused s text t e sense refused = inl (t, sense, refused)
 
--- what is told of the statement that a text says
+-- the result for the statement of a text
 pub says_kinds : {B : Type 0} (s : State) (text : List ℕ) (t : Statement)
     (result : Result (Option (Vec Kind B)) Refusal)
     → HasSense (finished text) (Says t) → TellsKinds s t result → TextTellsKinds s text result
 says_kinds s text t (Ok kinds) sense tells = (t, sense, tells)
 says_kinds s text t (Err e) sense tells = says_refused s text t e sense tells
 
--- a text that says none
+-- a text that is no statement
 pub unread_kinds : (s : State) (text : List ℕ) (e : Refusal) → ReadsAs text (Err e) → IsTextRefused s text e
 unread_kinds s text r.OutOfMemory reads = tt
 unread_kinds s text e reads = inr reads

@@ -1,4 +1,4 @@
--- Keys and references hold at every point behind each step, where they held before it.
+-- Keys and references hold at every point after each step, if they held before it.
 use Rattle.std.proofs.Common.{refl, [], ◌∷◌, inr, Option, Some, None}
 use Rattle.tql_spec.specs.AtPoints.{HoldAtPoints}
 use Rattle.tql_spec.specs.History.{Entry}
@@ -10,7 +10,7 @@ use Rattle.tql_run.specs.Responding.{Answered}
 use Rattle.tql_engine_step.specs.HoldPoints.{HoldsFor}
 use Rattle.tql_engine_state.specs.Stands.{EngineModel, StandsFor}
 
--- one reply of the machine
+-- one reply of the reference model
 pub keeps_one : (old new : State) (p : Piece) (r : Reply) → HoldAtPoints old → Answers old p r new → HoldAtPoints new
 keeps_one old new p r h a = runs_keep_points old new (p ∷ []) (r ∷ []) h (new, a, refl)
 
@@ -27,7 +27,7 @@ step_holds old new s p r h a = record {
 pub new_holds : (h : EngineModel) → StandsFor h new_state → HoldsFor h new_state
 new_holds h st = record { stands = st; holds = λ e m. absurd m }
 
--- a state with this transaction in place of its own
+-- a state with this transaction instead of its own
 abbrev with_open : State → Option Entry → State
 with_open s o = record s { transaction = o }
 

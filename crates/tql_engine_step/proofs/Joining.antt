@@ -1,5 +1,5 @@
--- From a fault of the state, and from what a statement is bound to or the fault of its binding, to what the machine
--- does at it.
+-- The step of the reference model at a statement, from a fault of the state, the bound statement, or a fault of its
+-- binding.
 use Rattle.std.proofs.Common.{◌≡◌, refl, sym, subst, ap, ◌∙◌, ◌<◌, arith, Bool, true, false, List, [], ◌∷◌, ◌++◌}
 use Rattle.std.proofs.Common.{Option, Some, None, Result, Err}
 use Rattle.std.specs.Prelude.{ℤ, nat_lt, nat_le, int_lt, is_some, is_none, ◌&&◌, ◌||◌, not, length, if◌then◌else◌}
@@ -44,7 +44,7 @@ use Rattle.tql_engine_state.proofs.StateFaults.{allowed_law}
 
 -- ---- a fault of the state
 
--- it stands before all that binding can give
+-- the refusal is reported before any that binding can give
 abbrev IsEarly : spec.Refusal → Type 0
 IsEarly e = place e < 9
 
@@ -92,7 +92,7 @@ first_early : (fs : List spec.Refusal) → AllByRecursion IsEarly fs → MayBeEa
 first_early [] h = tt
 first_early (a ∷ fs) h = earlier_early a (first fs) h.0 (first_early fs h.1)
 
--- the faults by the horizon and by readers stand behind
+-- the faults of the horizon and of readers are reported later
 if_late : (t : Bool) → AreLate (fault_if t BeforeTheHorizon)
 if_late true = record { each = (refl, tt) }
 if_late false = none
@@ -119,7 +119,7 @@ limits_late l defs (machine.Read n q) =
     unusable_late (not (is_named n l.names) || reads_plain defs q) ⊗ if_late (asks_before l.horizon q)
 limits_late l defs (machine.CloseReader n) = unusable_late (not (is_named n l.names))
 
--- what a statement is bound to under the state's limits
+-- a statement bound under the limits of the state
 abbrev pub bound_here : State → Statement → Checked machine.Bound
 bound_here s t = bind_under (limits_of s) s.definitions t
 
@@ -127,7 +127,7 @@ here_late : (s : State) (t : Statement) → AreLate (bound_here s t).faults
 here_late s t =
     limits_late (limits_of s) s.definitions (bind s.definitions t).value ⊗ bind_late s.definitions t
 
--- the first of a statement's faults is that of the state's, and then of all others
+-- the first of a statement's faults is that of the state, if any, and else that of its binding
 in_front : (s : State) (t : Statement)
     → first (statement_faults s t) ≡ first (state_faults s (statement_class t) ++ (bound_here s t).faults)
 in_front s t =
@@ -144,14 +144,14 @@ in_front s t =
       );
     })
 
--- AT asks for its moment later
+-- the moment of AT is tested later
 moment_later : (t u : Bool) (e : spec.Refusal) → first (fault_if t NotInThisTransactionState) ≡ Some e
     → first (fault_if t NotInThisTransactionState ++ fault_if u MomentNotAllowed) ≡ Some e
 moment_later true true e k = k
 moment_later true false e k = k
 moment_later false u e k = absurd cc
 
--- what is found first stays the first
+-- a fault that is found first stays the first
 found_first : (s : State) (m : StatementClass) (e : spec.Refusal) → first (state_faults s (asked_first m)) ≡ Some e
     → first (state_faults s m) ≡ Some e
 found_first s (SetsClock None) e k = k
@@ -180,13 +180,13 @@ state_fault_does h s t e st k =
     ∙ ap {B = Option spec.Refusal} (λ x. Some x)
     (earlier_stays e (first others) early (first_late others (here_late s t))))
 
--- a refusal that the machine gives, or out of memory
+-- a refusal by the reference model, or a refused allocation
 pub refuses : (h : EngineModel) (s : State) (e : Refusal) (step : machine.Reply × State) → StandsFor h s
     → Does h (Refused (refusal_of e)) step → Refuses h s e step
 refuses h s r.OutOfMemory step st d = st
 refuses h s e step st d = d
 
--- a fault of the state is what the machine answers
+-- a fault of the state is the reply of the reference model
 pub state_does : (h : EngineModel) (s : State) (t : Statement) (fault : Refusal) → StandsFor h s
     → Some (refusal_of fault) ≡ first (state_faults s (asked_first (statement_class t)))
     → Refuses h s fault (respond s t)
@@ -194,7 +194,7 @@ state_does h s t fault st k = refuses h s fault (respond s t) st (state_fault_do
 
 -- ---- a statement that is bound
 
--- where there is no fault, the transaction, the clock and the horizon allow it
+-- without a fault, the transaction, the clock and the horizon allow the statement
 pub bound_allowed : (h : EngineModel) (s : State) (t : Statement) (x : Bound) → StandsFor h s
     → None ≡ first (state_faults s (asked_first (statement_class t)))
     → first (bound_here s t).faults ≡ None → (bind s.definitions t).value ≡ bound_of x → IsAllowed h x
@@ -207,7 +207,7 @@ bound_allowed h s t x st k none is =
     ∙ no_left (limit_faults s (bind s.definitions t).value) (bind s.definitions t).faults
     (none_first (bound_here s t).faults none))
 
--- what is done at the bound statement is done at the statement
+-- the effect of the bound statement is that of the statement
 pub bound_does : (new : EngineModel) (s : State) (t : Statement) (b : machine.Bound) (result : Result Reply Refusal)
     → first (bound_here s t).faults ≡ None → (bind s.definitions t).value ≡ b
     → DoesStep new s result (step s b) → DoesStep new s result (respond s t)
@@ -221,7 +221,7 @@ unread : (m : Option ℤ) (e : spec.Refusal) → first ((or_bad_moment m).faults
 unread None e k = refl
 unread (Some m) e k = absurd (cc)
 
--- all is asked before: the moment of AT is not valid, and COMMIT and ROLLBACK have no fault of their own
+-- all else was tested before: the moment of AT is not valid, and COMMIT and ROLLBACK have no fault of their own
 all_asked : (l : Limits) (defs : List TableDef) (t : Statement) (e : spec.Refusal)
     → first (bind_under l defs t).faults ≡ Some e → statement_class t ≡ asked_first (statement_class t)
 all_asked l defs (CreateTree n x xs versioned) e k = refl
@@ -250,7 +250,7 @@ fault_does h s t e st none k =
     (in_front s t ∙ first_append (state_faults s (statement_class t)) (bound_here s t).faults
     ∙ (λ i. sooner (quiet i) (k i)))
 
--- its fault is what the machine answers, or memory ran out
+-- the fault is the reply of the reference model, or memory ran out
 pub refusal_does : {A : Type 0} (view : A → machine.Bound) (h : EngineModel) (s : State) (t : Statement)
     (fault : Refusal)
     → StandsFor h s

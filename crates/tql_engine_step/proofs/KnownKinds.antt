@@ -150,7 +150,7 @@ all_told : (outs : List Output) → AreKnown outs → map Some (flat_map listed 
 all_told [] h = refl
 all_told (o ∷ os) h = one_told o.typed.kind (kinds_in os) h.0 (all_told os h.1)
 
--- those of a query without a fault are all among the known ones
+-- the kinds of a query without a fault are all known
 pub kinds_told : (defs : List TableDef) (s : SelectTree) (keys : List OrderTree) → (select defs s keys).faults ≡ []
     → map Some (flat_map listed (select defs s keys).value.kinds) ≡ (select defs s keys).value.kinds
 kinds_told defs s keys e =
@@ -182,8 +182,8 @@ kinds_told defs s keys e =
     judged : Checked (List Cond)
     judged = optional_conjuncts scope s.having
 
--- ---- a list of kinds, kind by kind
+-- ---- a list of kinds
 
--- those that are known
+-- the known kinds of a list
 abbrev pub known_of : List (Option code.Kind) → List Kind
 known_of ks = flat_map listed (map (option_map plain_kind) ks)

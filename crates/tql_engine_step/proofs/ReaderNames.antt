@@ -1,4 +1,4 @@
--- The names of open readers, told by the code's list of them.
+-- The names of open readers, from the code's list of them.
 use Rattle.std.proofs.Common.{◌≡◌, refl, ap, List, [], ◌∷◌, map}
 use Rattle.std.specs.Prelude.{string_bytes}
 use Rattle.tql_spec.specs.Definition.{Name}

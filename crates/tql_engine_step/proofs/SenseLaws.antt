@@ -1,11 +1,11 @@
--- What a text says whose statement could not be read.
+-- The fault of a text whose statement could not be read.
 use Rattle.std.proofs.Common.{ℕ, List, Err}
 use Rattle.tql_value.specs.declared.refusal.Refusal.{Refusal}
 use Rattle.tql_value.specs.declared.refusal.Refusal.TheVariants as r
 use Rattle.tql_syntax.specs.Texts.{ReadsText}
 use Rattle.tql_engine_step.specs.Sense.{ReadsAs}
 
--- the fault for which it was not read is the text's first
+-- the fault that is reported is the text's first
 pub refused : (text : List ℕ) (e : Refusal) → ReadsText text (Err e) → ReadsAs text (Err e)
 refused text r.StatementTooLong p = p
 refused text r.NotUtf8 p = p

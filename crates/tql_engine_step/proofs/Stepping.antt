@@ -1,4 +1,4 @@
--- From the machine's step at a statement to the answer to a text.
+-- From the step of the reference model at a statement to the answer to a text.
 use Rattle.std.proofs.Common.{refl, ℕ, List, Result, Ok, Err, inl, inr}
 use Rattle.tql_spec.specs.Refusal.{OutOfMemory}
 use Rattle.tql_spec.specs.Machine as machine
@@ -18,11 +18,11 @@ use Rattle.tql_run.specs.Responding as responding
 
 -- ---- answers
 
--- the reply is the machine's to the piece, or out of memory, and the engine stands for the state after it
+-- the reply is that of the reference model, or out of memory, and the engine represents the state after it
 abbrev pub Answered : State → Piece → machine.Reply → EngineModel → Type 0
 Answered s p reply h = responding.Answered Answers s p reply (StandsFor h)
 
--- a reply that the machine gives at the statement that a text says
+-- the reply of the reference model to the statement of a text
 pub statement_answered : (new : EngineModel) (s : State) (text : List ℕ) (t : Statement) (reply : machine.Reply)
     → HasSense (finished text) (Says t) → Does new reply (respond s t) → Answered s (finished text) reply new
 statement_answered new s text t reply sense d = record {
@@ -45,7 +45,7 @@ fault_answered new s p e st sense = record {
   stands = st;
 }
 
--- what a statement's result answers
+-- the answer to a refused statement
 pub refused_answered : (new : EngineModel) (s : State) (text : List ℕ) (t : Statement) (e : Refusal)
     → HasSense (finished text) (Says t) → Refuses new s e (respond s t)
     → Answered s (finished text) (Refused (refusal_of e)) new
@@ -99,7 +99,7 @@ refused_answered new s text t r.DuplicateKey sense d =
 refused_answered new s text t r.ReferenceNotMet sense d =
     statement_answered new s text t (Refused (refusal_of r.ReferenceNotMet)) sense d
 
--- what a text that says nothing answers
+-- the answer to a text that is no statement
 pub unread_answered : (new : EngineModel) (s : State) → StandsFor new s → (text : List ℕ) (e : Refusal)
     → ReadsAs text (Err e) → Answered s (finished text) (Refused (refusal_of e)) new
 unread_answered new s st text r.OutOfMemory why = memory_answered new s (finished text) st
@@ -135,7 +135,7 @@ unread_answered new s st text r.CheckFailed why = fault_answered new s (finished
 unread_answered new s st text r.DuplicateKey why = fault_answered new s (finished text) r.DuplicateKey st why
 unread_answered new s st text r.ReferenceNotMet why = fault_answered new s (finished text) r.ReferenceNotMet st why
 
--- what a statement's result answers
+-- the answer from a statement's result
 pub result_answered : (new : EngineModel) (s : State) (text : List ℕ) (t : Statement) (result : Result Reply Refusal)
     → HasSense (finished text) (Says t) → DoesStep new s result (respond s t)
     → Answered s (finished text) (reply_by result) new

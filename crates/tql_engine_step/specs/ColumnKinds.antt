@@ -1,4 +1,4 @@
--- The kinds of the columns that a query answers, told before it is run.
+-- The kinds of the columns that a query answers, known before it runs.
 use Rattle.std.specs.Prelude.{◌≡◌, ◌⊎◌, ℕ, Bool, true, false, List, map, Option, Some, None, Result, Ok, Err, ⊤, Vec}
 use Rattle.tql_spec.specs.Binding.{select}
 use Rattle.tql_spec.specs.Datum as datum
@@ -15,13 +15,13 @@ use Rattle.tql_value.specs.declared.refusal.Refusal.{Refusal}
 use Rattle.tql_value.specs.declared.refusal.Refusal.TheVariants.{OutOfMemory}
 use Rattle.tql_value.specs.declared.value.Kind.{Kind}
 
--- whether a statement is a query, also of a reader
+-- whether a statement is a query or a READ
 abbrev pub is_query : Statement → Bool
 is_query (QueryTree s keys) = true
 is_query (ReadTree n s keys) = true
 is_query _ = false
 
--- it asks this one
+-- the statement is this query, or a READ of it
 abbrev pub Asks : Statement → SelectTree → List OrderTree → Type 0
 Asks t tree keys = (t ≡ QueryTree tree keys) ⊎ ((n : Name) × (t ≡ ReadTree n tree keys))
 
@@ -38,31 +38,31 @@ pub record IsRefusedFor (s : State) (t : Statement) (e : spec.Refusal) : Type 0 
   pub query : is_query t ≡ true
   pub fault : first (statement_faults s t) ≡ Some e
 
--- no fault of names, kinds, forms and literals, nor by the horizon or open readers, or the first of these
+-- no fault of names, kinds, forms and literals, of the horizon or of open readers; or the first of these
 abbrev pub IsBound : State → Statement → Result (Unit {0}) Refusal → Type 0
 IsBound s t (Ok u) = first (bind_under (limits_of s) s.definitions t).faults ≡ None
 IsBound s t (Err OutOfMemory) = ⊤
 IsBound s t (Err e) = first (bind_under (limits_of s) s.definitions t).faults ≡ Some (refusal_of e)
 
--- a refusal of a query is the first of its faults, or for memory
+-- a query is refused for the first of its faults, or for memory
 abbrev pub IsRefused : State → Statement → Refusal → Type 0
 IsRefused s t OutOfMemory = ⊤
 IsRefused s t e = IsRefusedFor s t (refusal_of e)
 
--- of a statement: the kinds of a query's columns, none of another one's, or the first fault of a query
+-- the result for a statement: the kinds of a query's columns, none for another statement, or a query's first fault
 abbrev pub TellsKinds : {B : Type 0} → State → Statement → Result (Option (Vec Kind B)) Refusal → Type 0
 TellsKinds s t (Ok (Some kinds)) = HasKinds s t (map plain_kind kinds.items)
 TellsKinds s t (Ok None) = is_query t ≡ false
 TellsKinds s t (Err e) = IsRefused s t e
 
--- a refusal of a text is one of the query that it says, or the fault of the text, or for memory
+-- a text is refused for a fault of its query, for a fault of the text, or for memory
 abbrev pub IsTextRefused : State → List ℕ → Refusal → Type 0
 IsTextRefused s text OutOfMemory = ⊤
 IsTextRefused s text e =
     ((t : Statement) × HasSense (finished text) (Says t) × IsRefusedFor s t (refusal_of e))
     ⊎ HasSense (finished text) (Faulty (refusal_of e))
 
--- of a text: what is told of its statement, or why it is refused
+-- the result for a text: that of its statement, or the refusal
 abbrev pub TextTellsKinds : {B : Type 0} → State → List ℕ → Result (Option (Vec Kind B)) Refusal → Type 0
 TextTellsKinds s text (Ok kinds) = (t : Statement) × HasSense (finished text) (Says t) × TellsKinds s t (Ok kinds)
 TextTellsKinds s text (Err e) = IsTextRefused s text e

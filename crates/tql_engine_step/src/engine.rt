@@ -38,8 +38,8 @@ use tql_syntax_tree::statement::Statement;
 use tql_value::calendar::FIRST_MOMENT;
 use tql_value::refusal::Refusal;
 
-/// An engine: its tables in the order of their creation, the store of their rows, the moment of the next transaction,
-/// in microseconds since 1970-01-01, and the open readers in the order of their opening.
+/// An engine: its tables, the store of their rows, the moment of the next transaction, and the open readers. Tables and
+/// readers are in the order of their creation. The moment is in microseconds since 1970-01-01.
 pub struct Engine<I: IntervalIndex> {
     memory: Memory,
     tables: Catalog,

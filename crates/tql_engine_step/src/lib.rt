@@ -1,4 +1,4 @@
-//! The engine: what it holds, and what it replies to a statement.
+//! The engine: its state, and its reply to a statement.
 #![tactic(auto)]
 
 pub mod engine;

@@ -1,9 +1,9 @@
--- What stays of the terms of a statement while more are added: for those who build on them.
+-- The terms of a statement that stay when more are added; for crates that build on them.
 use Rattle.std.proofs.Common.{◌∙◌, arith}
 use Rattle.tql_expr.specs.declared.terms.Terms.{Terms}
 use Rattle.tql_expr.specs.Meaning.{Stays}
 
--- what stays twice stays
+-- staying is transitive
 pub stays_trans : {t u v : Terms} → Stays t u → Stays u v → Stays t v
 stays_trans {t} {u} {v} s r = record {
   grows = omega (arith, s.grows, r.grows);

@@ -1,4 +1,4 @@
--- Relations of periods that are given by expressions, as sets of points.
+-- Relations of periods that are given by expressions, as relations of sets of points.
 use Rattle.std.specs.Prelude.{◌≡◌, ◌↔◌, ℤ, List, Option, Some}
 use Rattle.std.proofs.Common.{ap, ◌∙◌}
 use Rattle.tql_spec.specs.Words.{◌>>=◌}
@@ -9,7 +9,7 @@ use Rattle.tql_spec.specs.Period.{Relation, Holds, ends, OnSets, predicate, cont
 use Rattle.tql_spec.specs.Period.{PointFormulaIsSet}
 use Rattle.tql_expr.specs.Sets.{SaysOfPeriods, SaysOfHolding}
 
--- what four values give, and three
+-- the truth for four optional values, and for three
 abbrev four_values : Relation → Option Datum → Option Datum → Option Datum → Option Datum → Option Truth
 four_values which a b c d = do
   xs ← a
@@ -25,7 +25,7 @@ three_values a b p = do
   y ← p
   Some (contains_point (xs, xe) y)
 
--- a truth that is there
+-- an answer that is known
 there : (t : Truth) (answer : Option Truth) (A : Type 0) → answer ≡ Some t → (t ≡ True) ↔ A → (answer ≡ Some True) ↔ A
 there t answer A e law = (λ h. law.0 (cc), λ a. e ∙ ap (λ (u : Truth). Some u) (law.1 a))
 

@@ -1,4 +1,4 @@
--- Trees at places: each is made of those before it, and what is added behind changes none.
+-- Trees at positions. Each is made of those before it, and later additions change none.
 use Rattle.std.proofs.Common.{◌≡◌, ℕ, ◌+◌, ◌<◌, ◌≤◌, zero, suc, List, [], ◌∷◌, ◌++◌, length, refl, ap, sym, ◌∙◌}
 use Rattle.std.proofs.Common.{subst, zero-add, arith, length-append, add-zero, true, ◌&&◌, IsTrue, nat_lt}
 use Rattle.std.proofs.Common.{slice_index_or}
@@ -22,7 +22,7 @@ use Rattle.tql_expr.specs.Trees.{term_in, terms_from}
 
 -- ---- for each kind of node
 
--- what is built of two places that have the same trees
+-- what is built from two positions with the same trees
 two : {X : Type 0} → (build : Term → Term → X) (f g : ℕ → Term) (place a b : ℕ) → ((k : ℕ) → k < place → f k ≡ g k)
     → IsTrue (nat_lt a place && nat_lt b place) → build (f a) (f b) ≡ build (g a) (g b)
 two build f g place a b same h =
@@ -37,7 +37,7 @@ four build f g place a b c d same h =
     let p = and_parts (nat_lt a place && nat_lt b place) (nat_lt c place && nat_lt d place) h in
     two (λ s t. build s t (f c) (f d)) f g place a b same p.0 ∙ two (build (g a) (g b)) f g place c d same p.1
 
--- a node's tree depends on the literals that there are and the trees before it alone
+-- the tree of a node depends only on the existing literals and on the trees before it
 pub same_term : (lit lit' : ℕ → Datum) (f g : ℕ → Term) (count place : ℕ) → ((k : ℕ) → k < count → lit k ≡ lit' k)
     → ((k : ℕ) → k < place → f k ≡ g k)
     → (n : Node) → IsTrue (reads_before count place n) → node_term lit f n ≡ node_term lit' g n
@@ -67,7 +67,7 @@ same_term lit lit' f g count place lits same (And c d) h =
 same_term lit lit' f g count place lits same (Or c d) h =
     two (λ s t. OfCond (bound.Or (cond_of s) (cond_of t))) f g place c d same h
 
--- with more literals it still names what is there
+-- with more literals, a node still refers only to existing ones
 pub more_literals : (count more place : ℕ) (n : Node) → count ≤ more → IsTrue (reads_before count place n)
     → IsTrue (reads_before more place n)
 more_literals count more place (Literal k) le h = let below = ltb-true k count h in lt-ltb k more (omega arith)
@@ -75,7 +75,7 @@ more_literals count more place _ le h = h
 
 -- ---- for all kinds at once
 
--- there are as many trees as nodes
+-- each node adds one tree
 pub length-terms_from : (lit : ℕ → Datum) (done : List Term) (ns : List Node)
     → length (terms_from lit done ns) ≡ length done + length ns
 length-terms_from lit done [] = omega arith
@@ -83,14 +83,14 @@ length-terms_from lit done (n ∷ ns) =
     let x = node_term lit (term_in done) n in
     omega (arith, length-terms_from lit (done ++ x ∷ []) ns, length-append done (x ∷ []))
 
--- one more node adds its tree behind the others
+-- one more node adds its tree after the others
 pub terms_from-last : (lit : ℕ → Datum) (done : List Term) (ns : List Node) (n : Node)
     → terms_from lit done (ns ++ n ∷ []) ≡ terms_from lit done ns ++ node_term lit (term_in (terms_from lit done ns))
     n ∷ []
 terms_from-last lit done [] n = refl
 terms_from-last lit done (m ∷ ns) n = terms_from-last lit (done ++ node_term lit (term_in done) m ∷ []) ns n
 
--- it reads before itself where it does so at its place
+-- a node may be added if it refers only to what is before its position
 pub all_read_before-last : (count place : ℕ) (ns : List Node) (n : Node) → IsTrue (all_read_before count place ns)
     → IsTrue (reads_before count (place + length ns) n) → IsTrue (all_read_before count place (ns ++ n ∷ []))
 all_read_before-last count place [] n all last =
@@ -101,7 +101,7 @@ all_read_before-last count place (m ∷ ns) n all last =
     and_from (reads_before count place m) (all_read_before count (place + 1) (ns ++ n ∷ [])) p.0
     (all_read_before-last count (place + 1) ns n p.1 (subst (λ q. IsTrue (reads_before count q n)) here last))
 
--- the node at a place reads before it
+-- the node at a position refers only to what is before it
 pub reads_before_at : (count place : ℕ) (ns : List Node) (k : ℕ) (d : Node) → IsTrue (all_read_before count place ns)
     → k < length ns → IsTrue (reads_before count (place + k) (slice_index_or ns k d))
 reads_before_at count place [] k d all within = absurd (omega arith)
@@ -133,7 +133,7 @@ same_terms lit lit' count place done (n ∷ ns) lits all =
     (same_term lit lit' (term_in done) (term_in done) count place lits (λ k h. refl) n p.0)
     ∙ same_terms lit lit' count (place + 1) (done ++ node_term lit' (term_in done) n ∷ []) ns lits p.1
 
--- the trees so far stay
+-- the trees so far stay as they are
 pub term_in_kept : (lit : ℕ → Datum) (done : List Term) (ns : List Node) (k : ℕ) → k < length done
     → term_in (terms_from lit done ns) k ≡ term_in done k
 term_in_kept lit done [] k within = refl
@@ -142,7 +142,7 @@ term_in_kept lit done (n ∷ ns) k within =
     term_in_kept lit (done ++ x ∷ []) ns k (omega (arith, length-append done (x ∷ [])))
     ∙ get_or_append_left done (x ∷ []) (OfExpr (bound.Literal Null)) k within
 
--- the tree at a place is that of the node there, over all trees
+-- the tree at a position is that of its node, given all trees
 pub term_in_at : (lit : ℕ → Datum) (count : ℕ) (done : List Term) (ns : List Node) (place k : ℕ) (d : Node)
     → place ≡ length done → IsTrue (all_read_before count place ns) → k < length ns
     → term_in (terms_from lit done ns) (place + k) ≡ node_term lit (term_in (terms_from lit done ns))
@@ -169,7 +169,7 @@ term_in_at lit count done (n ∷ ns) place (suc k) d is all within =
 
 -- ---- what the nodes of a statement need
 
--- the node at a place, and its tree
+-- the node at a position, and its tree
 pub reads_before_here : (count : ℕ) (ns : List Node) (k : ℕ) (n : Node) → n ≡ slice_index_or ns k n → k < length ns
     → IsTrue (all_read_before count 0 ns) → IsTrue (reads_before count k n)
 reads_before_here count ns k n is within all =
@@ -188,14 +188,14 @@ term_here lit count ns k n is within all =
 pub size_is : (lit : ℕ → Datum) (ns : List Node) → length (terms_from lit [] ns) ≡ length ns
 size_is lit ns = omega (arith, length-terms_from lit [] ns)
 
--- a node that is added
+-- a node is added
 pub node_ordered : (count : ℕ) (ns : List Node) (n : Node) → IsTrue (reads_before count (length ns) n)
     → IsTrue (all_read_before count 0 ns) → IsTrue (all_read_before count 0 (ns ++ n ∷ []))
 node_ordered count ns n here all =
     all_read_before-last count 0 ns n all
     (subst (λ p. IsTrue (reads_before count p n)) (sym (zero-add (length ns))) here)
 
--- a literal that is added, with its node
+-- a literal is added, with its node
 pub literal_ordered : (vs : List value.Value) (v : value.Value) (ns : List Node) (k : ℕ) → k ≡ length vs
     → IsTrue (all_read_before (length vs) 0 ns)
     → IsTrue (all_read_before (length (vs ++ v ∷ [])) 0 (ns ++ Literal k ∷ []))
@@ -218,9 +218,9 @@ literal_added vs v ns k is all =
     (sym (same_terms (datum_at vs) lit (length vs) 0 [] ns
     (λ j h. ap datum_of_value (sym (get_or_append_left vs (v ∷ []) value_is.Null j h))) all))
 
--- ---- for those that add
+-- ---- for additions
 
--- one tree behind the others is added
+-- a tree is added after the others
 pub adds_last : (old new : Terms) (place : ℕ) (t : Term) → trees new ≡ trees old ++ t ∷ [] → place ≡ size old
     → Adds old new place t
 adds_last old new place t is here =

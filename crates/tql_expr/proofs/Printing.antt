@@ -1,4 +1,4 @@
--- What is computed on values that have texts has a text.
+-- Values computed from printable values are printable.
 use Rattle.std.specs.Prelude.{ℕ, zero, suc, ℤ, Bool, true, false, nat_lt, List, [], ◌∷◌, ◌++◌, map, length, insert}
 use Rattle.std.specs.Prelude.{take, drop, All, Option, Some, None, ⊤, pos, if◌then◌else◌}
 use Rattle.std.proofs.lemmas.List.Elements.{All-head, All-tail, All-append, All-push, All-nil, All-take, All-drop}
@@ -17,7 +17,7 @@ use Rattle.tql_expr.specs.declared.node.Node.TheVariants.{Literal}
 use Rattle.tql_expr.specs.declared.terms.ExprId.{ExprId}
 use Rattle.tql_expr.specs.declared.terms.Terms.{Terms}
 
--- a cell of a row that has texts
+-- a cell of a printable row
 pub printable_cell : (row : Row) (i : ℕ) → All IsPrintable row → IsPrintable (cell row i)
 printable_cell [] i h = tt
 printable_cell (v ∷ vs) zero h = All-head IsPrintable v vs h
@@ -25,7 +25,7 @@ printable_cell (v ∷ vs) (suc i) h = printable_cell vs i (All-tail IsPrintable 
 
 -- ---- expressions of a statement
 
--- a value that stands in an expression by itself has a text
+-- a literal that is the whole expression is printable
 abbrev pub Prints : bound.Expr → Type 0
 Prints (bound.Literal v) = IsPrintable v
 Prints _ = ⊤
@@ -63,7 +63,7 @@ expr_prints t x =
 
 -- ---- evaluation
 
--- the value, if there is one, has a text
+-- the value, if there is one, is printable
 abbrev pub OptionPrints : Option Datum → Type 0
 OptionPrints None = ⊤
 OptionPrints (Some v) = IsPrintable v
@@ -103,7 +103,7 @@ eval_prints row (bound.Aggregate f e) h p =
 
 -- ---- rows
 
--- a row, rows, if there are any
+-- the row, or the rows, are printable if there are any
 abbrev pub RowPrints : Option Row → Type 0
 RowPrints None = ⊤
 RowPrints (Some row) = All IsPrintable row
@@ -133,7 +133,7 @@ rows_front_print (Some row) None h k = tt
 rows_front_print (Some row) (Some rows) h k =
     All-append (All IsPrintable) (row ∷ []) rows (All-push (All IsPrintable) [] row (All-nil (All IsPrintable)) h) k
 
--- inserted values among others
+-- a value inserted among others
 inserted_prints : (row : Row) (i : ℕ) (v : Datum) → All IsPrintable row → IsPrintable v
     → All IsPrintable (insert row i v)
 inserted_prints row i v h p =

@@ -1,4 +1,4 @@
--- What a query gives of rows that have texts has texts.
+-- A query over printable rows returns printable rows.
 use Rattle.std.specs.Prelude.{◌≡◌, refl, ℕ, zero, suc, Bool, true, false, not, List, [], ◌∷◌, ◌++◌, map, filter}
 use Rattle.std.specs.Prelude.{length, replicate, slice_index_or, All, Option, Some, None, ⊤, pos, if◌then◌else◌}
 use Rattle.std.specs.List.{flat_map}
@@ -53,7 +53,7 @@ pairs_print (x ∷ xs) ys h k =
     (All-append (All IsPrintable) (map (λ y. x ++ y) ys) (pairs xs ys)
     (beside x ys (All-head (All IsPrintable) x xs h) k) (pairs_print xs ys (All-tail (All IsPrintable) x xs h) k))
 
--- ---- what is kept
+-- ---- filters
 
 if_kept : (row : Row) (test : Option Bool) (rest : Option (List Row)) → All IsPrintable row → RowsPrint rest
     → RowsPrint (kept_if row test rest)
@@ -149,7 +149,7 @@ some_rows test (r ∷ rows) h = left (test r) (some_rows test rows (All-tail (Al
     left true k = one_and r (filter test rows) (All-head (All IsPrintable) r rows h) k
     left false k = k
 
--- a row or group that has texts
+-- a printable row or group
 pub record ScopePrints (s : Scope) : Type 0 where
   pub row : All IsPrintable s.row
   pub group : AllPrint s.group
@@ -209,7 +209,7 @@ kept_scopes having (s ∷ ss) h =
 
 -- ---- values
 
--- the literals of an expression that stand by themselves, or as what an aggregate is taken over
+-- the literals that are the whole expression, or the operand of an aggregate, are printable
 abbrev pub LiteralsPrint : Expr → Type 0
 LiteralsPrint (bound.Literal v) = IsPrintable v
 LiteralsPrint (bound.Aggregate f e) = Prints e
@@ -264,7 +264,7 @@ value_prints group row (bound.Aggregate f e) g h p =
     if_prints (fits (pos (length group))) (map_all (λ r. eval [] r e) group >>= λ vs. aggregate f (present vs))
     (of_present f (map_all (λ r. eval [] r e) group) (each_value group e g p))
 
--- ---- what is shown
+-- ---- output
 
 row_prints : (s : Scope) (items : List Expr) → ScopePrints s → All LiteralsPrint items
     → RowPrints (map_all (eval s.group s.row) items)

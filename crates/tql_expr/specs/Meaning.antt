@@ -1,4 +1,4 @@
--- What the terms of a statement stand for.
+-- What the terms of a statement represent.
 use Rattle.std.specs.Prelude.{◌≡◌, ℕ, ◌<◌, ◌≤◌, Bool, List, [], ◌∷◌, length, slice_index_or, Result, Ok, Err, Option}
 use Rattle.std.specs.Prelude.{Some, None, MatchResult}
 use Rattle.std.specs.declared.alloc.AllocError.{AllocError}
@@ -20,67 +20,67 @@ use Rattle.tql_expr.specs.declared.terms.ExprId.{ExprId}
 use Rattle.tql_expr.specs.declared.terms.CondId.{CondId}
 use Rattle.tql_expr.specs.declared.terms.Terms.{Terms}
 
--- the literal at a place
+-- the literal at a position
 abbrev pub datum_at : List Value → ℕ → Datum
 datum_at vs k = datum_of_value (slice_index_or vs k Null)
 
--- the tree at each place
+-- the tree at each position
 abbrev pub trees : Terms → List Term
 trees t = terms_from (datum_at t.literals.items) [] t.nodes.items
 
--- the expression, the condition that stands at an id's place
+-- the expression, or the condition, at the position of an id
 abbrev pub expr : Terms → ExprId → Expr
 expr t id = expr_of (term_in (trees t) id.place)
 
 abbrev pub cond : Terms → CondId → Cond
 cond t id = cond_of (term_in (trees t) id.place)
 
--- so many trees are there
+-- the number of trees
 abbrev pub size : Terms → ℕ
 size t = length (trees t)
 
--- the id is that of an expression, of a condition that is there
+-- the id is that of an existing expression, or condition
 abbrev pub HasExpr : Terms → ExprId → Type 0
 HasExpr t id = id.place < size t
 
 abbrev pub HasCond : Terms → CondId → Type 0
 HasCond t id = id.place < size t
 
--- the expression that an aggregate is
+-- the expression of an aggregate
 abbrev pub aggregate : Terms → Aggregate → Expr
 aggregate t Rows = bound.CountRows
 aggregate t (Over f x) = bound.Aggregate (plain_function f) (expr t x)
 
--- what it is taken over is there
+-- the operand of an aggregate exists
 abbrev pub HasOperand : Terms → Aggregate → Type 0
 HasOperand t Rows = Unit {0}
 HasOperand t (Over f x) = HasExpr t x
 
--- the trees that were there stay
+-- the existing trees stay as they are
 pub record Stays (old new : Terms) : Type 0 where
   pub grows : size old ≤ size new
   pub same : (k : ℕ) → k < size old → term_in (trees new) k ≡ term_in (trees old) k
 
--- a tree is added at this place, and those that were there stay
+-- a tree is added at this position, and the existing trees stay as they are
 pub record Adds (old new : Terms) (place : ℕ) (t : Term) : Type 0 where
   pub stays : Stays old new
   pub within : place < size new
   pub is : term_in (trees new) place ≡ t
 
--- an expression is added; nothing is where memory is refused
+-- an expression is added; nothing is added if out of memory
 abbrev pub AddsExpr : Terms → Terms → Result ExprId AllocError → Expr → Type 0
 AddsExpr old new result e = MatchResult result (λ id. Adds old new id.place (OfExpr e)) (λ _. trees new ≡ trees old)
 
--- a condition is added
+-- a condition is added; nothing is added if out of memory
 abbrev pub AddsCond : Terms → Terms → Result CondId AllocError → Cond → Type 0
 AddsCond old new result c = MatchResult result (λ id. Adds old new id.place (OfCond c)) (λ _. trees new ≡ trees old)
 
--- an expression of several nodes is added; where memory is refused, what was there stays
+-- an expression of several nodes is added; the existing trees stay, also if out of memory
 abbrev pub BuildsExpr : Terms → Terms → Result ExprId AllocError → Expr → Type 0
 BuildsExpr old new result e =
     MatchResult result (λ id. Stays old new × HasExpr new id × (expr new id ≡ e)) (λ _. Stays old new)
 
--- a condition of several nodes
+-- a condition of several nodes is added
 abbrev pub BuildsCond : Terms → Terms → Result CondId AllocError → Cond → Type 0
 BuildsCond old new result c =
     MatchResult result (λ id. Stays old new × HasCond new id × (cond new id ≡ c)) (λ _. Stays old new)
@@ -90,7 +90,7 @@ abbrev pub chain : Expr → List (spec.Operation × Expr) → Expr
 chain e [] = e
 chain e (x ∷ xs) = chain (Binary x.0 e x.1) xs
 
--- AND, OR from left to right
+-- AND, and OR, from left to right
 abbrev pub all_of : Cond → List Cond → Cond
 all_of c [] = c
 all_of c (d ∷ ds) = all_of (And c d) ds
@@ -104,16 +104,16 @@ abbrev pub one_of : List Cond → Cond → Cond
 one_of [] last = last
 one_of (c ∷ cs) last = Or c (one_of cs last)
 
--- an operation on two values that are there
+-- an operation on two optional values
 abbrev pub calculated : spec.Operation → Option Datum → Option Datum → Option Datum
 calculated op a b = a >>= λ x. b >>= λ y. calculate op x y
 
--- what a condition gave, none where an evaluation in it left 64 bits
+-- the truth of a condition; none if an evaluation in it left 64 bits
 abbrev pub judged : Result Truth Range → Option logic.Truth
 judged (Ok t) = Some (plain_truth t)
 judged (Err e) = None
 
--- what a test gave, none where an evaluation in it left 64 bits
+-- the result of a test; none if an evaluation in it left 64 bits
 abbrev pub tested : Result Bool Range → Option Bool
 tested (Ok b) = Some b
 tested (Err e) = None

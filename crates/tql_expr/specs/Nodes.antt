@@ -1,10 +1,10 @@
--- Which nodes name only what lies before them.
+-- Nodes that refer only to what is before them.
 use Rattle.std.specs.Prelude.{ℕ, ◌+◌, Bool, true, ◌&&◌, nat_lt, List, [], ◌∷◌}
 use Rattle.tql_expr.specs.declared.node.Node.{Node}
 use Rattle.tql_expr.specs.declared.node.Node.TheVariants.{Literal, Column, Negate, Binary, CountRows, Aggregate}
 use Rattle.tql_expr.specs.declared.node.Node.TheVariants.{Compare, IsNull, Related, ContainsPoint, Not, And, Or}
 
--- whether a node at this place names literals among so many, and operands before itself
+-- whether a node at this position refers to one of the first `count` literals and to operands before itself
 abbrev pub reads_before : ℕ → ℕ → Node → Bool
 reads_before count place (Literal k) = nat_lt k count
 reads_before count place (Column i) = true
@@ -22,7 +22,7 @@ reads_before count place (Not c) = nat_lt c place
 reads_before count place (And c d) = nat_lt c place && nat_lt d place
 reads_before count place (Or c d) = nat_lt c place && nat_lt d place
 
--- whether each of these nodes, of which the first is at this place, does so
+-- whether each of these nodes does so, with the first one at this position
 abbrev pub all_read_before : ℕ → ℕ → List Node → Bool
 all_read_before count place [] = true
 all_read_before count place (n ∷ ns) = reads_before count place n && all_read_before count (place + 1) ns

@@ -1,4 +1,4 @@
--- What is sought in expressions.
+-- What a search in an expression looks for.
 use Rattle.std.specs.Prelude.{Bool, nat_le}
 use Rattle.tql_spec.specs.Binding.{is_loose}
 use Rattle.tql_spec.specs.Creation.{has_aggregate, has_number, nests_aggregates, uses_column}
@@ -6,7 +6,7 @@ use Rattle.tql_spec.specs.Expression.{Expr}
 use Rattle.tql_expr.specs.declared.search.Search.{Search}
 use Rattle.tql_expr.specs.declared.search.Search.TheVariants.{Aggregate, Nested, Loose, From, OneOf}
 
--- whether it stands in an expression
+-- whether an expression contains a match
 abbrev pub sought : Search → Expr → Bool
 sought Aggregate = has_aggregate
 sought Nested = nests_aggregates

@@ -1,4 +1,4 @@
--- What relations say of periods as sets of points.
+-- What relations say about periods as sets of points.
 use Rattle.std.specs.Prelude.{◌≡◌, ◌↔◌, IsTrue, ℤ, List, Option, Some}
 use Rattle.tql_spec.specs.Truth.{Truth, True}
 use Rattle.tql_spec.specs.Datum.{Datum, Row}
@@ -10,14 +10,14 @@ pub record AreEndsOf (kind : ℤ → Datum) (group : List Row) (row : Row) (s e 
   pub start : eval group row s ≡ Some (kind x.start)
   pub end : eval group row e ≡ Some (kind x.end)
 
--- a relation of two rising periods is true exactly where their points are so
+-- a relation of two periods that start before they end is true exactly if it holds for their sets of points
 abbrev pub SaysOfPeriods : (ℤ → Datum) → List Row → Row → Cond → Option Truth → Type 0
 SaysOfPeriods kind group row c answer = (which : Relation) (s e s' e' : Expr) (x y : Period)
     → c ≡ Related which s e s' e'
     → AreEndsOf kind group row s e x → AreEndsOf kind group row s' e' y → IsTrue (rises x) → IsTrue (rises y)
     → (answer ≡ Some True) ↔ OnSets which x y
 
--- CONTAINS with a point is true exactly where the period holds it
+-- CONTAINS with a point is true exactly if the period contains it
 abbrev pub SaysOfHolding : (ℤ → Datum) → List Row → Row → Cond → Option Truth → Type 0
 SaysOfHolding kind group row c answer = (s e q : Expr) (x : Period) (p : ℤ) → c ≡ ContainsPoint s e q
     → AreEndsOf kind group row s e x → eval group row q ≡ Some (kind p) → (answer ≡ Some True) ↔ Holds x p

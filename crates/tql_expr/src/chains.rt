@@ -1,4 +1,4 @@
-//! Conditions and expressions that are written as lists.
+//! Adds conditions and expressions that are written as lists.
 ghost use Rattle.std.specs.Prelude.{All, map};
 ghost use Rattle.tql_expr.specs.Trees.{plain_operation};
 ghost use Rattle.tql_expr.specs.Meaning.{expr, cond, HasExpr, HasCond, chain, all_of, any_of, one_of, BuildsExpr};
@@ -8,7 +8,7 @@ use crate::node::Operation;
 use crate::terms::{CondId, ExprId, Terms};
 use std::alloc::AllocError;
 
-// What is written as a list becomes one run of nodes: its operands are there before, and nothing comes between.
+// A list becomes one run of nodes. Its operands are added before the run, and no other node comes between.
 impl Terms {
     /// Adds the operations on `first`, from left to right.
     pub fn push_chain(
@@ -54,7 +54,7 @@ impl Terms {
         Ok(so_far)
     }
 
-    /// Adds the OR of the conditions, nested to the right: what IN is.
+    /// Adds the OR of the conditions, nested to the right, as IN is defined.
     pub fn push_one_of(&mut self, conds: &[CondId], last: CondId) -> Result<CondId, AllocError>
         requires last { HasCond self.old last }
         requires conds { All (HasCond self.old) conds.now }

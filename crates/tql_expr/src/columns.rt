@@ -1,4 +1,4 @@
-//! What expressions are evaluated on.
+//! The rows on which expressions are evaluated.
 ghost use Rattle.std.specs.Prelude.{◌≡◌, List, [], slice_index_or};
 ghost use Rattle.tql_spec.specs.Datum as pure;
 ghost use Rattle.tql_spec.specs.Expression as bound;
@@ -10,26 +10,26 @@ use crate::terms::{Aggregate, Terms};
 use tql_value::arithmetic::Range;
 use tql_value::value::View;
 
-/// What expressions read: the values of a row by number, however they are kept, and the aggregates of its group.
+/// A row on which expressions are evaluated: its values by column number, and the aggregates of its group.
 pub trait Columns {
     /// The values, column by column.
     ghost values: { Self → pure.Row };
 
-    /// The rows of the row's group, over which aggregates are taken; none where there is no group.
+    /// The rows of the row's group, over which aggregates are computed; no rows if there is no group.
     ghost group: { Self → List pure.Row };
 
-    /// The value of a column; NULL past the last one.
+    /// Returns the value of a column, or NULL past the last one.
     fn column(&self, place: usize) -> View<'_>
         ensures { datum_of_view result ≡ slice_index_or (values self.now) place pure.Null };
 
-    /// What an aggregate of the terms gives over the rows of the group; `Range` where a number inside leaves 64 bits.
+    /// Returns the value of an aggregate over the rows of the group, or `Range` if a number inside leaves 64 bits.
     fn aggregate<'a>(&'a self, terms: &'a Terms, which: Aggregate) -> Result<View<'a>, Range>
         requires { HasOperand terms.now which }
         ensures { outcome result ≡ bound.eval (group self.now) (values self.now) (tree_of terms.now which) };
 }
 
-/// What an aggregate of the terms gives over no rows: 0 where it counts, and else NULL (ISO/IEC 9075-2:2011, 10.9
-/// `<aggregate function>`). It is never out of range.
+/// Returns the value of an aggregate over no rows: 0 if it counts, else NULL (ISO/IEC 9075-2:2011, 10.9
+/// `<aggregate function>`). Never returns `Range`.
 pub fn over_no_rows<'a>(terms: &Terms, which: Aggregate) -> Result<View<'a>, Range>
     requires { HasOperand terms.now which }
     ensures { (row : pure.Row) → outcome result ≡ bound.eval [] row (tree_of terms.now which) }

@@ -1,4 +1,4 @@
-//! The value of an expression and the truth of a condition, on a row.
+//! Evaluates expressions and conditions on a row.
 ghost use Rattle.std.specs.Prelude.{◌≡◌, ◌<◌, ◌≤◌, ◌-◌, IsTrue, IsOk, All, map};
 ghost use Rattle.tql_spec.specs.Datum.{Day, Moment};
 ghost use Rattle.tql_spec.specs.Expression as bound;
@@ -18,10 +18,10 @@ use tql_value::comparison::{Comparison, compare};
 use tql_value::truth::Truth;
 use tql_value::value::View;
 
-// A long sum is a run of nodes, each of which continues the one just before it. Runs are followed by a loop, so that
-// the depth of calls is that of the parentheses, however long the sum.
+// A long sum is a run of nodes, each of which continues the node just before it. A loop follows the run, so that the
+// call depth depends on the parentheses and not on the length of the sum.
 impl Terms {
-    /// Whether a node continues the one just before it.
+    /// Whether a node continues the node just before it.
     fn continues(&self, at: usize) -> bool
         requires { at < size self.now }
         ensures { IsTrue result → 0 < at }
@@ -34,7 +34,7 @@ impl Terms {
         }
     }
 
-    /// Where the run that ends at a place begins.
+    /// Returns the first node of the run that ends at `at`.
     fn run_start(&self, at: usize) -> usize
         requires { at < size self.now }
         ensures { result ≤ at }
@@ -67,7 +67,7 @@ impl Terms {
         }
     }
 
-    /// What the node at a place gives, where the one before it gives this.
+    /// Returns the value of the node at `at`, given the value of the node before it.
     #[cycle(evaluate)]
     fn eval_next<'a, C: Columns>(
         &'a self,
@@ -101,7 +101,7 @@ impl Terms {
         value
     }
 
-    /// The value of an operand of a test. A column or a literal, as most are, is read where it is, without a walk.
+    /// Returns the value of an operand of a test. A column or a literal, the most common operands, is read directly.
     fn operand<'a, C: Columns>(&'a self, at: usize, columns: &'a C) -> Result<View<'a>, Range>
         requires { at < size self.now }
         ensures { outcome result
@@ -192,7 +192,7 @@ impl Terms {
         }
     }
 
-    /// What the node at a place gives, where the one before it gives this.
+    /// Returns the truth of the node at `at`, given the truth of the node before it.
     #[cycle(judge)]
     fn holds_next<C: Columns>(
         &self,
@@ -228,7 +228,7 @@ impl Terms {
         truth
     }
 
-    /// The truth of a condition. A comparison, as most are, is made without a walk.
+    /// Returns the truth of a condition. A comparison, the most common condition, is evaluated directly.
     fn judged_at<C: Columns>(&self, at: usize, columns: &C) -> Result<Truth, Range>
         requires { at < size self.now }
         ensures { judged result
@@ -240,7 +240,7 @@ impl Terms {
         }
     }
 
-    /// The value of an expression, or `Range` where an evaluation inside leaves 64 bits.
+    /// Returns the value of an expression, or `Range` if an evaluation inside leaves 64 bits.
     pub fn eval<'a, C: Columns>(&'a self, x: ExprId, columns: &'a C) -> Result<View<'a>, Range>
         requires { HasExpr self.now x }
         ensures { outcome result
@@ -249,15 +249,15 @@ impl Terms {
         self.operand(x.place, columns)
     }
 
-    /// The truth of a condition, or `Range` where an evaluation inside leaves 64 bits: everything inside is evaluated.
-    /// Where nothing is calculated in the condition there is no `Range`.
+    /// Returns the truth of a condition, or `Range` if an evaluation inside leaves 64 bits; everything inside is
+    /// evaluated. A condition without arithmetic and aggregates never returns `Range`.
     pub fn holds<C: Columns>(&self, c: CondId, columns: &C) -> Result<Truth, Range>
         requires { HasCond self.now c }
         ensures truth { judged result
             ≡ bound.judge (C.group columns.now) (C.values columns.now) (cond self.now c) }
         ensures safe { IsTrue (bound.is_safe (cond self.now c)) → IsOk result }
 
-        // What it says of periods as sets of points, where their ends are days, and where they are moments.
+        // What the condition says about periods as sets of points, for days and for moments.
         ensures days { SaysOfPeriods Day (C.group columns.now) (C.values columns.now)
             (cond self.now c) (judged result) }
         ensures moments { SaysOfPeriods Moment (C.group columns.now) (C.values columns.now)
@@ -271,7 +271,7 @@ impl Terms {
         self.judged_at(c.place, columns)
     }
 
-    /// Whether a row passes a list of conjuncts: from the left, each evaluated only where all before it were TRUE.
+    /// Whether a row passes a list of conjuncts. From the left, each is evaluated only if all before it were TRUE.
     pub fn passes<C: Columns>(&self, conjuncts: &[CondId], columns: &C) -> Result<bool, Range>
         requires { All (HasCond self.now) conjuncts.now }
         ensures { tested result

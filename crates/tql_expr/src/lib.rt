@@ -1,5 +1,5 @@
-//! Bound expressions and conditions as flat nodes, their meaning as the trees of the definitions, what they read, and
-//! their evaluation.
+//! Bound expressions and conditions as flat nodes: the trees that they represent, searches in them, and their
+//! evaluation.
 #![tactic(auto)]
 
 mod chains;

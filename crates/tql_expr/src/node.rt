@@ -2,7 +2,7 @@
 use tql_period::predicates::Relation;
 use tql_value::comparison::Comparison;
 
-/// The operations of arithmetic.
+/// The arithmetic operations.
 #[derive(Clone, Copy, PartialEq, Eq, Debug)]
 pub enum Operation {
     /// `+`
@@ -16,7 +16,7 @@ pub enum Operation {
 /// The aggregates over an expression.
 #[derive(Clone, Copy, PartialEq, Eq, Debug)]
 pub enum Function {
-    /// How many values are not NULL.
+    /// The number of values that are not NULL.
     Count,
     /// The exact sum.
     Sum,
@@ -26,10 +26,10 @@ pub enum Function {
     Max,
 }
 
-/// A node of an expression or of a condition. It names its operands by their places among the nodes.
+/// A node of an expression or of a condition. It refers to its operands by their positions among the nodes.
 #[derive(Clone, Copy, PartialEq, Eq, Debug)]
 pub enum Node {
-    /// A value, by its place among the literals.
+    /// A value, by its position among the literals.
     Literal(usize),
     /// A column, by its number.
     Column(usize),
@@ -39,15 +39,15 @@ pub enum Node {
     Binary(Operation, usize, usize),
     /// `COUNT(*)`
     CountRows,
-    /// `SUM(x)` and its kin
+    /// `SUM(x)` and the other aggregates over an expression
     Aggregate(Function, usize),
-    /// `x = y` and its kin
+    /// `x = y` and the other comparisons
     Compare(Comparison, usize, usize),
     /// `x IS NULL`
     IsNull(usize),
-    /// A predicate between the periods from the first place to the second, and from the third to the fourth.
+    /// A predicate on the periods from the first operand to the second, and from the third to the fourth.
     Related(Relation, usize, usize, usize, usize),
-    /// CONTAINS with the point at the third place.
+    /// CONTAINS for the period from the first operand to the second, with the third as the point.
     ContainsPoint(usize, usize, usize),
     /// `NOT c`
     Not(usize),

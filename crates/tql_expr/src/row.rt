@@ -8,7 +8,7 @@ use crate::terms::{Aggregate, Terms};
 use tql_value::arithmetic::Range;
 use tql_value::value::{Value, View};
 
-/// The value of a column of these cells; NULL past the last one.
+/// Returns the value of a column of these cells, or NULL past the last one.
 pub fn cell_at(cells: &[Value], place: usize) -> View<'_>
     ensures { datum_of_view result ≡ cell (map datum_of_value cells.now) place }
 {
@@ -18,7 +18,7 @@ pub fn cell_at(cells: &[Value], place: usize) -> View<'_>
     }
 }
 
-/// The row without columns: what the values of an INSERT are evaluated on, in which no column stands.
+/// The row without columns, on which the values of an INSERT are evaluated.
 pub struct EmptyRow;
 
 impl Columns for EmptyRow {

@@ -1,4 +1,4 @@
-//! Which conditions no evaluation can take out of range.
+//! Finds the conditions that no evaluation can take out of range.
 ghost use Rattle.std.specs.Prelude.{◌≡◌, ◌<◌, ◌&&◌, IfSome};
 ghost use Rattle.tql_expr.specs.Trees.{expr_of, cond_of, term_in};
 ghost use Rattle.tql_spec.specs.Expression.{is_plain as plain, is_safe as safe};
@@ -25,7 +25,7 @@ impl Terms {
         )
     }
 
-    /// The operands of an AND or an OR. The near one stands just before it, if one does.
+    /// Returns the operands of an AND or an OR. The near one is the node just before, if that is an operand.
     fn parts(&self, at: usize) -> Option<Parts>
         requires { at < size self.now }
         ensures near { IfSome result (λ p. p.near < at) }
@@ -70,7 +70,7 @@ impl Terms {
         }
     }
 
-    /// Whether no arithmetic and no aggregate stands in a condition. Where it is so, `holds` never meets `Range`.
+    /// Whether a condition contains no arithmetic and no aggregate. If so, `holds` never returns `Range`.
     #[cycle(safety)]
     pub fn is_safe(&self, c: CondId) -> bool
         requires { HasCond self.now c }

@@ -1,4 +1,4 @@
-//! The steps of an evaluation, on what each operand gave.
+//! The steps of an evaluation, given the results of the operands.
 ghost use Rattle.std.specs.Prelude.{◌≡◌};
 ghost use Rattle.tql_value.specs.Views.{outcome};
 ghost use Rattle.tql_spec.specs.Truth.{and, or};
@@ -11,7 +11,7 @@ use tql_value::arithmetic::{Range, add, mul, sub};
 use tql_value::truth::Truth;
 use tql_value::value::View;
 
-/// An operation on two values, each of which may have left 64 bits; NULL with a NULL operand.
+/// Returns the result of an operation on two values, each of which may be `Range`; NULL with a NULL operand.
 pub(crate) fn applied<'a>(
     op: Operation,
     a: Result<View<'a>, Range>,
@@ -28,14 +28,14 @@ pub(crate) fn applied<'a>(
     }
 }
 
-/// AND of two conditions, each evaluated.
+/// Returns the AND of two conditions, each evaluated.
 pub(crate) fn all(c: Result<Truth, Range>, d: Result<Truth, Range>) -> Result<Truth, Range>
     ensures { judged result ≡ both and (judged c) (judged d) }
 {
     Ok(c?.and(d?))
 }
 
-/// OR of two conditions, each evaluated.
+/// Returns the OR of two conditions, each evaluated.
 pub(crate) fn any(c: Result<Truth, Range>, d: Result<Truth, Range>) -> Result<Truth, Range>
     ensures { judged result ≡ both or (judged c) (judged d) }
 {

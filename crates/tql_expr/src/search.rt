@@ -1,4 +1,4 @@
-//! What stands somewhere in an expression or a condition.
+//! Searches in expressions and conditions.
 ghost use Rattle.std.specs.List.{list_any};
 ghost use Rattle.std.specs.Prelude.{◌≡◌, ◌<◌, ◌||◌, All, IfSome, map, not};
 ghost use Rattle.tql_spec.specs.Binding.{is_loose};
@@ -11,16 +11,16 @@ ghost use Rattle.tql_expr.specs.Searches.{sought};
 use crate::node::Node;
 use crate::terms::{CondId, ExprId, Terms};
 
-/// What is sought.
+/// What a search looks for.
 #[derive(Clone, Copy)]
 pub enum Search<'a> {
     /// An aggregate.
     Aggregate,
     /// An aggregate inside an aggregate.
     Nested,
-    /// A column outside the aggregates that is none of these, by number.
+    /// A column outside the aggregates that is not one of these, by number.
     Loose(&'a [usize]),
-    /// A column outside the aggregates from this number on.
+    /// A column outside the aggregates with this number or a higher one.
     From(usize),
     /// A column outside the aggregates that is one of these, by number.
     OneOf(&'a [usize]),
@@ -34,7 +34,7 @@ struct Operands {
 }
 
 impl<'a> Search<'a> {
-    /// Whether a column is sought.
+    /// Whether the search matches a column.
     fn is_column(self, column: usize) -> bool
         ensures { result ≡ sought self.entry (bound.Column column) }
     {
@@ -47,10 +47,10 @@ impl<'a> Search<'a> {
     }
 }
 
-// A long sum is a run of nodes, each of which continues the one just before it, and so is a long list of AND or OR.
-// Runs are followed by a loop, so that the depth of calls is that of the parentheses.
+// A long sum, or a long list of AND or OR, is a run of nodes, each of which continues the node just before it. A loop
+// follows the run, so that the call depth depends on the parentheses only.
 impl Terms {
-    /// The operands of an operation.
+    /// Returns the operands of an operation.
     fn operands(&self, search: Search<'_>, at: usize) -> Option<Operands>
         requires { at < size self.now }
         ensures near { IfSome result (λ p. p.near < at) }
@@ -92,7 +92,7 @@ impl Terms {
         }
     }
 
-    /// Whether it stands in an expression.
+    /// Whether an expression contains a match.
     #[cycle(finds)]
     pub fn finds(&self, search: Search<'_>, x: ExprId) -> bool
         requires { HasExpr self.now x }
@@ -113,7 +113,7 @@ impl Terms {
         self.finds_at(search, here)
     }
 
-    /// The operands of an AND or an OR.
+    /// Returns the operands of an AND or an OR.
     fn halves(&self, search: Search<'_>, at: usize) -> Option<Operands>
         requires { at < size self.now }
         ensures near { IfSome result (λ p. p.near < at) }
@@ -169,7 +169,7 @@ impl Terms {
         }
     }
 
-    /// Whether it stands in an expression of a condition.
+    /// Whether an expression of a condition contains a match.
     #[cycle(finds_in)]
     pub fn finds_in(&self, search: Search<'_>, c: CondId) -> bool
         requires { HasCond self.now c }
@@ -185,7 +185,7 @@ impl Terms {
         self.finds_in_test(search, here)
     }
 
-    /// Whether it stands in one of the expressions.
+    /// Whether one of the expressions contains a match.
     pub fn finds_any(&self, search: Search<'_>, items: &[ExprId]) -> bool
         requires { All (HasExpr self.now) items.now }
         ensures { result ≡ list_any (sought search.entry) (map (expr self.now) items.now) }
@@ -198,7 +198,7 @@ impl Terms {
         false
     }
 
-    /// Whether it stands in one of the conjuncts.
+    /// Whether one of the conjuncts contains a match.
     pub fn finds_any_in(&self, search: Search<'_>, conjuncts: &[CondId]) -> bool
         requires { All (HasCond self.now) conjuncts.now }
         ensures { result ≡ list_any (has_expr (sought search.entry)) (map (cond self.now) conjuncts.now) }

@@ -1,4 +1,4 @@
-//! Rows as they are stored, shown as their table has them.
+//! Stored rows, shown with the columns of their table.
 ghost use Rattle.std.specs.Prelude.{◌≡◌, length, map, insert};
 ghost use Rattle.tql_spec.specs.Datum as pure;
 ghost use Rattle.tql_spec.specs.Definition.{cell, with_generated};
@@ -12,28 +12,28 @@ use std::cmp::Ordering;
 use tql_value::arithmetic::Range;
 use tql_value::value::{Value, View};
 
-/// A row as it is stored, shown as its table has it: with ROW START and ROW END in their columns.
+/// A stored row, shown with the columns of its table: ROW START and ROW END are in their columns.
 #[derive(Clone, Copy)]
 pub struct StoredRow<'a> {
-    /// The cells that are not generated, as they are kept.
+    /// The stored cells: those of all columns that are not generated.
     pub cells: &'a [Value],
-    /// The columns of ROW START and ROW END, by number; none in a table that is not versioned.
+    /// The columns of ROW START and ROW END, by number; `None` in a table that is not versioned.
     pub system: Option<(usize, usize)>,
     /// The moment at which the row began, in microseconds since 1970-01-01 00:00:00.
     pub start: i64,
-    /// The moment at which it ended, likewise.
+    /// The moment at which the row ended, in the same unit.
     pub end: i64,
 }
 
-/// A moment that stands in a column of its own.
+/// A moment in a column of its own.
 #[derive(Clone, Copy)]
 struct Stamp {
     place: usize,
     moment: i64,
 }
 
-/// Where a column stands among the others of a row of this width to which one is added, or none where it is that one.
-/// What is added at a place behind the end stands at the end.
+/// Returns the position of a column among the others, in a row of this width to which one is added; `None` for the
+/// added one. A column added past the end is added at the end.
 fn place_among_others(added: usize, width: usize, place: usize) -> Option<usize>
     ensures { (row : pure.Row) (v : pure.Datum) → length row ≡ width
         → cell (insert row added v) place ≡ read_or v row result }
@@ -46,7 +46,7 @@ fn place_among_others(added: usize, width: usize, place: usize) -> Option<usize>
 }
 
 impl<'a> StoredRow<'a> {
-    /// How many columns its table has.
+    /// Returns the number of columns of its table.
     pub fn width(&self) -> usize
         ensures { result ≡ length (with_generated (generated self.now.system) (map datum_of_value self.now.cells.now)
             self.now.start self.now.end) }
@@ -59,7 +59,7 @@ impl<'a> StoredRow<'a> {
         }
     }
 
-    /// The value of a column where two stamps are added to the cells, one after the other.
+    /// Returns the value of a column after two stamps are added to the cells, one after the other.
     fn with_stamps(&self, first: Stamp, second: Stamp, place: usize) -> View<'a>
         ensures { datum_of_view result
             ≡ cell (insert (insert (map datum_of_value self.now.cells.now) first.place (pure.Moment first.moment))

@@ -12,13 +12,13 @@ use tql_period::predicates::Relation;
 use tql_value::comparison::Comparison;
 use tql_value::value::{Value, View};
 
-/// The place of an expression among the terms of its statement.
+/// The position of an expression among the terms of its statement.
 #[derive(Clone, Copy, PartialEq, Eq, Debug)]
 pub struct ExprId {
     pub(crate) place: usize,
 }
 
-/// The place of a condition among the terms of its statement.
+/// The position of a condition among the terms of its statement.
 #[derive(Clone, Copy, PartialEq, Eq, Debug)]
 pub struct CondId {
     pub(crate) place: usize,
@@ -27,14 +27,14 @@ pub struct CondId {
 /// An aggregate over the rows of a group.
 #[derive(Clone, Copy, PartialEq, Eq, Debug)]
 pub enum Aggregate {
-    /// How many rows there are: `COUNT(*)`.
+    /// The number of rows: `COUNT(*)`.
     Rows,
     /// A function over the values of an expression.
     Over(Function, ExprId),
 }
 
-/// The expressions and conditions of a statement. Each node stands behind its operands, and nothing that was added is
-/// changed later, so a place stands for one tree for good.
+/// The expressions and conditions of a statement. Each node follows its operands. Nodes are never changed later, so a
+/// position always represents the same tree.
 pub struct Terms {
     literals: Vec<Value, Memory>,
     nodes: Vec<Node, Memory>,
@@ -60,7 +60,7 @@ impl Terms {
     ghost use Rattle.tql_expr.specs.Meaning.{trees, size, expr, cond, datum_at, HasExpr, HasCond, Adds, AddsExpr};
     ghost use Rattle.tql_expr.specs.Meaning.{AddsCond};
 
-    /// No terms yet.
+    /// Creates empty terms.
     pub fn new(memory: Memory) -> Terms
         ensures { trees result ≡ [] }
     {
@@ -70,7 +70,7 @@ impl Terms {
         }
     }
 
-    /// Adds a node that names only what is there.
+    /// Adds a node that refers only to existing nodes and literals.
     fn push(&mut self, node: Node) -> Result<usize, AllocError>
         requires { IsTrue (reads_before (length self.old.literals.items) (size self.old) node) }
         ensures { MatchResult result
@@ -84,7 +84,7 @@ impl Terms {
         Ok(place)
     }
 
-    /// Adds a value. A day or a moment is one that the calendar has.
+    /// Adds a value. A day or a moment must be in the calendar.
     pub fn push_literal(&mut self, value: Value) -> Result<ExprId, AllocError>
         requires { IsPrintable (datum_of_value value) }
         ensures { AddsExpr self.old self.new result (bound.Literal (datum_of_value value)) }
@@ -168,7 +168,7 @@ impl Terms {
         Ok(CondId { place })
     }
 
-    /// Adds a predicate between the periods from the first expression to the second, and from the third to the fourth.
+    /// Adds a predicate on the periods from the first expression to the second, and from the third to the fourth.
     pub fn push_related(
         &mut self,
         which: Relation,
@@ -233,7 +233,7 @@ impl Terms {
         Ok(CondId { place })
     }
 
-    /// The node at a place: it names operands before itself, and what it stands for is made of theirs.
+    /// Returns the node at a position. Its operands are before it, and its tree is made of theirs.
     pub(crate) fn node(&self, at: usize) -> Node
         requires { at < size self.now }
         ensures before { IsTrue (reads_before (length self.now.literals.items) at result) }
@@ -244,7 +244,7 @@ impl Terms {
         self.nodes[at]
     }
 
-    /// The literal at a place among the literals.
+    /// Returns the literal at a position among the literals.
     pub(crate) fn literal(&self, place: usize) -> View<'_>
         requires { place < length self.now.literals.items }
         ensures { datum_of_view result ≡ datum_at self.now.literals.items place }

@@ -1,4 +1,4 @@
-//! The values that expressions have on a row, in memory of their own.
+//! The values of expressions on a row, in memory of their own.
 ghost use Rattle.std.specs.Prelude.{All, map};
 ghost use Rattle.tql_spec.specs.Expression as bound;
 ghost use Rattle.tql_spec.specs.Words.{map_all};
@@ -12,7 +12,7 @@ use tql_memory::Memory;
 use tql_value::refusal::Refusal;
 use tql_value::value::Value;
 
-/// The value of an expression. Refused where an evaluation inside leaves 64 bits, or for memory.
+/// Returns the value of an expression. Refused if an evaluation inside leaves 64 bits, or if out of memory.
 pub fn value_on<C: Columns>(
     memory: Memory,
     terms: &Terms,
@@ -26,7 +26,7 @@ pub fn value_on<C: Columns>(
     terms.eval(expr, columns)?.to_value(memory)
 }
 
-/// The values of expressions, in their order. Refused where an evaluation inside leaves 64 bits, or for memory.
+/// Returns the values of expressions, in order. Refused if an evaluation inside leaves 64 bits, or if out of memory.
 pub fn values_on<C: Columns>(
     memory: Memory,
     terms: &Terms,

@@ -38,7 +38,7 @@ deep_more l r a b h k =
     let p : 2 ^ (max l r + 1) ≡ 2 ^ max l r * 2 = ap (λ e. 2 ^ e) (add-one (max l r)) ∙ pow-suc 2 (max l r) in
     rw p (omega (arith, h, k, m, n))
 
--- the greatest end, told by the greatest of the parts
+-- the greatest end, from the greatest ends of the parts
 pub greatest_of_parts : (l : List Entry) (e : Entry) (r : List Entry) (g : ℤ)
     → g ≡ int_max (int_max (greatest_end l) e.period.end) (greatest_end r) → g ≡ greatest_end (l ++ e ∷ r)
 greatest_of_parts l e r g t = let b = greatest_end-append l (e ∷ r) in omega (arith, ints, clamps, t, b)
@@ -60,6 +60,6 @@ made l e r h g a d m n i j q t =
       deep = rw (q, c) (deep_more l.height r.height (length l.entries) (length r.entries) i j);
     }
 
--- the greater of two, told by what they are
+-- the greater of two numbers that are known under other names
 pub greater_of : (r s a b a' b' : ℤ) → r ≡ int_max a' b' → s ≡ r → a' ≡ a → b' ≡ b → s ≡ int_max a b
 greater_of r s a b a' b' h e f g = rw (e, h, f, g) refl

@@ -1,4 +1,4 @@
--- The greatest end of the same bag.
+-- The greatest end of lists that are the same bag.
 use Rattle.std.specs.Prelude.{◌≡◌, refl, Bool, true, false, List, [], ◌∷◌, ◌++◌, count_by, ℤ, ◌≤ℤ◌}
 use Rattle.std.specs.Prelude.{int_lt}
 use Rattle.std.specs.Int.{int_max}
@@ -60,7 +60,7 @@ greatest_of_bag xs ys h =
     let b = not_less xs ys h in
     omega (arith, ints, a, b)
 
--- one entry more on one side
+-- an entry is added on one side
 pub more_right : (e t : Entry) (l r k : List Entry) (g m : ℤ) → g ≡ greatest_end (l ++ t ∷ r) → SameBag k (e ∷ r)
     → m ≡ int_max g e.period.end → m ≡ greatest_end (l ++ t ∷ k)
 more_right e t l r k g m h s n =
@@ -77,13 +77,13 @@ more_left e t l r k g m h s n =
     let d = greatest_of_bag k (e ∷ l) s in
     omega (arith, ints, clamps, a, b, d, h, n)
 
--- what the greatest end was, after a removal
+-- the greatest end from before a removal
 pub greatest_before : (b : Bool) (e : Entry) (old new : List Entry) (g : ℤ) → Removes b e old new
     → g ≡ greatest_end old → WasGreatest b e.period.end g new
 greatest_before true e old new g s h = h ∙ greatest_of_bag old (e ∷ new) s
 greatest_before false e old new g s h = h ∙ ap greatest_end (sym s.0)
 
--- what the greatest end was, where the first entry is taken
+-- the greatest end from before the removal of the first entry
 pub first_before : (m t : Entry) (l k r : List Entry) (g n : ℤ) → l ≡ m ∷ k → g ≡ greatest_end (l ++ t ∷ r)
     → n ≡ m.period.end → g ≡ int_max n (greatest_end (k ++ t ∷ r))
 first_before m t l k r g n e h f = rw f (rw e at h)

@@ -18,11 +18,11 @@ pub record IsWord (n : ℤ) : Type 0 where
 pub not_same : (a b : ℕ) → (a ≡ b → ⊥) → nat_eq a b ≡ false
 not_same a b n = grind (arith, nat_tests)
 
--- of two groups, each point of the lesser lies before those of the other
+-- each point of the lesser group is before the points of the other
 less_group : (g h s t : ℤ) → g <ℤ h → IsWord s → IsWord t → placed g s <ℤ placed h t
 less_group g h s t l a b = omega (arith, ints, l, a.low, a.high, b.low, b.high)
 
--- the order in one group
+-- the order within one group
 in_one : (g h s t : ℤ) → g ≡ h → int_cmp s t ≡ int_cmp (placed g s) (placed h t)
 in_one g h s t e = by_lt_z s t
     (λ l. let m : placed g s <ℤ placed h t = omega (arith, ints, e, l) in
@@ -35,7 +35,7 @@ in_one g h s t e = by_lt_z s t
     let n : placed g s ≡ placed h t = omega (arith, ints, e, l, m) in
     int_same s t u ∙ sym (int_same (placed g s) (placed h t) n)))
 
--- places are in the order of their groups, and those of a group in that of their points
+-- places are ordered by group, then by point
 pub place_order : (g h s t : ℤ) → IsWord s → IsWord t
     → ordering_then (int_cmp g h) (int_cmp s t) ≡ int_cmp (placed g s) (placed h t)
 place_order g h s t a b = by_lt_z g h
@@ -48,7 +48,7 @@ place_order g h s t a b = by_lt_z g h
     let e : g ≡ h = omega (arith, ints, l, m) in
     ap (λ o. ordering_then o (int_cmp s t)) (int_same g h e) ∙ in_one g h s t e))
 
--- after the starts, the ends of spans are compared where both are of one group
+-- spans with equal starts are in one group, so their ends compare as on the line
 ends_order : (g h s t e f : ℤ) → IsWord s → IsWord t
     → ordering_then (int_cmp (placed g s) (placed h t)) (int_cmp e f)
     ≡ ordering_then (int_cmp (placed g s) (placed h t)) (int_cmp (placed g e) (placed h f))
@@ -65,7 +65,7 @@ ends_order g h s t e f a b =
     let u : g ≡ h = omega (arith, ints, l, m, a.low, a.high, b.low, b.high) in
     ap (λ o. ordering_then (int_cmp x y) o) (in_one g h e f u)))
 
--- the order of spans, as it is computed
+-- the order of spans, as the code computes it
 pub span_order : (g h s t e f : ℤ) (a b c d o : Ordering) → IsWord s → IsWord t → a ≡ int_cmp g h → b ≡ int_cmp s t
     → c ≡ ordering_then a b → d ≡ int_cmp e f → o ≡ ordering_then c d
     → o ≡ ordering_then (int_cmp (placed g s) (placed h t)) (int_cmp (placed g e) (placed h f))
@@ -80,7 +80,7 @@ span_order g h s t e f a b c d o w v i j k l m =
 pub share_in_one : (g h : ℤ) (x y : Period) → g ≡ h → share_a_point x y ≡ share_a_point (in_group g x) (in_group h y)
 share_in_one g h x y e = grind (arith, ints, clamps, e)
 
--- in two groups there are none
+-- spans of different groups share no point
 apart : (g h : ℤ) (x y : Period) → g <ℤ h → IsWord x.end → IsWord y.start
     → share_a_point (in_group g x) (in_group h y) ≡ false
 apart g h x y l a b =

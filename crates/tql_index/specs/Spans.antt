@@ -5,7 +5,7 @@ use Rattle.tql_period.specs.Points.{points_of}
 use Rattle.tql_index.specs.Line.{placed}
 use Rattle.tql_index.specs.declared.span.Span as code
 
--- the points of a period, in a group
+-- the points of a period in a group
 abbrev pub in_group : ℤ → Period → Period
 in_group group x = record { start = placed group x.start; end = placed group x.end }
 
@@ -13,6 +13,6 @@ in_group group x = record { start = placed group x.start; end = placed group x.e
 abbrev pub span_of : code.Span → Period
 span_of x = in_group x.group (points_of x.period)
 
--- every point of a group that is below the highest number of 64 bits
+-- all points of a group below the highest number of 64 bits
 abbrev pub all_of_group : ℤ → Period
 all_of_group group = in_group group (record { start = neg_ℤ (pos (2 ^ 63)); end = pos (2 ^ 63 - 1) })

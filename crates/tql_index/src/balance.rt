@@ -1,4 +1,4 @@
-//! Trees from sides whose heights differ by at most two.
+//! Builds balanced trees from sides whose heights differ by at most two.
 ghost use Rattle.std.specs.Prelude.{◌≡◌, ◌+◌, ◌≤◌, max, ◌∷◌, ◌++◌};
 ghost use Rattle.tql_index.specs.Line.{place_of};
 ghost use Rattle.tql_index.specs.Tree.{greatest_end, DifferByAtMost, IsAround, IsHeightAfterBalance, WasGreatest};
@@ -9,7 +9,7 @@ use crate::tree::{Branch, Parts, Tree, hold, link};
 use std::alloc::Allocator;
 use std::mem;
 
-// A balanced tree of a branch whose sides were changed in place, and which knows the greatest end.
+// Builds a balanced tree from a branch whose sides were changed in place. Its greatest end must be up to date.
 pub fn settle<A: Allocator>(top: Box<Branch<A>, A>) -> Tree<A>
     requires around { IsAround (entry_of top.value) top.value.left.entries top.value.right.entries }
     requires near { DifferByAtMost 2 top.value.left.height top.value.right.height }
@@ -28,7 +28,7 @@ pub fn settle<A: Allocator>(top: Box<Branch<A>, A>) -> Tree<A>
     }
 }
 
-// As `settle`, by the sides. It is seldom called, and stands apart to keep the others short.
+// As `settle`, from the separate sides. It is called seldom and is a separate function to keep the others short.
 #[inline(never)]
 fn turn<A: Allocator>(mut top: Box<Branch<A>, A>) -> Tree<A>
     requires around { IsAround (entry_of top.value) top.value.left.entries top.value.right.entries }
@@ -43,8 +43,8 @@ fn turn<A: Allocator>(mut top: Box<Branch<A>, A>) -> Tree<A>
     balance(left, top, right)
 }
 
-// As `settle`, where an entry that ends here was taken from a side, if one was found. The branch knows the
-// greatest end from before, which is found anew only where that entry may have been the last to end.
+// As `settle`, after an entry that ends at `end` was removed from a side, if `found`. The branch still has its old
+// greatest end, which is recomputed only if the removed entry may have been the last to end.
 pub fn settle_less<A: Allocator>(mut top: Box<Branch<A>, A>, found: bool, end: Place) -> Tree<A>
     requires around { IsAround (entry_of top.value) top.value.left.entries top.value.right.entries }
     requires near { DifferByAtMost 2 top.value.left.height top.value.right.height }
@@ -61,7 +61,7 @@ pub fn settle_less<A: Allocator>(mut top: Box<Branch<A>, A>, found: bool, end: P
     settle(top)
 }
 
-// A balanced tree of two sides and the entry between them.
+// Builds a balanced tree from two sides and the entry between them.
 pub fn balance<A: Allocator>(left: Tree<A>, top: Box<Branch<A>, A>, right: Tree<A>) -> Tree<A>
     requires around { IsAround (entry_of top.value) left.entries right.entries }
     requires near { DifferByAtMost 2 left.height right.height }
@@ -79,7 +79,7 @@ pub fn balance<A: Allocator>(left: Tree<A>, top: Box<Branch<A>, A>, right: Tree<
     }
 }
 
-// The left side is two higher: its top, or that of its inner side, becomes the top.
+// Balances a left side that is two higher. The top of that side, or of its inner side, becomes the top.
 fn lean_right<A: Allocator>(left: Tree<A>, top: Box<Branch<A>, A>, right: Tree<A>) -> Tree<A>
     requires around { IsAround (entry_of top.value) left.entries right.entries }
     requires two_higher { left.height ≡ right.height + 2 }
@@ -114,7 +114,7 @@ fn lean_right<A: Allocator>(left: Tree<A>, top: Box<Branch<A>, A>, right: Tree<A
     link(link(outer, side, low), middle, link(high, top, right))
 }
 
-// The right side is two higher: its top, or that of its inner side, becomes the top.
+// Balances a right side that is two higher. The top of that side, or of its inner side, becomes the top.
 fn lean_left<A: Allocator>(left: Tree<A>, top: Box<Branch<A>, A>, right: Tree<A>) -> Tree<A>
     requires around { IsAround (entry_of top.value) left.entries right.entries }
     requires two_higher { right.height ≡ left.height + 2 }

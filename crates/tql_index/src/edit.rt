@@ -1,4 +1,4 @@
-//! One entry more, and one less, in place: a branch changes where a side of it does.
+//! Inserts and removes entries in place. A branch is changed wherever one of its sides is.
 ghost use Rattle.std.specs.Prelude.{◌≡◌, ◌+◌, ◌≤◌, max, [], ◌∷◌, ◌++◌, IfSome, IfNone};
 ghost use Rattle.tql_spec.specs.Bag.{SameBag};
 ghost use Rattle.tql_index.specs.Entry.{Removes};
@@ -13,7 +13,7 @@ use std::alloc::Allocator;
 use std::cmp::Ordering;
 use std::mem;
 
-// The tree of one entry.
+// Returns the tree of one entry.
 #[inline(never)]
 fn alone<A: Allocator>(entry: Box<Branch<A>, A>) -> Tree<A>
     ensures { result ≡ record { entries = entry_of entry.value ∷ []; height = 1 } }
@@ -21,7 +21,7 @@ fn alone<A: Allocator>(entry: Box<Branch<A>, A>) -> Tree<A>
     link(Tree::new(), entry, Tree::new())
 }
 
-// One entry more, which the branch brings with its memory.
+// Inserts an entry. It comes as a branch with its memory, so nothing is allocated.
 pub fn insert<A: Allocator>(tree: &mut Tree<A>, entry: Box<Branch<A>, A>)
     requires room { tree.old.height ≤ 199 }
     ensures entries { SameBag tree.new.entries (entry_of entry.value ∷ tree.old.entries) }
@@ -42,7 +42,7 @@ pub fn insert<A: Allocator>(tree: &mut Tree<A>, entry: Box<Branch<A>, A>)
     }
 }
 
-// Takes a tree's first entry out.
+// Removes the first entry of a tree and returns it.
 fn take_least<A: Allocator>(tree: &mut Tree<A>) -> Option<Box<Branch<A>, A>>
     requires room { tree.old.height ≤ 199 }
     ensures some { IfSome result (λ b. IsWithoutLeast tree.old (entry_of b.value) tree.new) }
@@ -57,7 +57,7 @@ fn take_least<A: Allocator>(tree: &mut Tree<A>) -> Option<Box<Branch<A>, A>>
     Some(least)
 }
 
-// The tree of a branch's sides, without the entry between them.
+// Returns the tree of a branch's sides, without the entry between them.
 #[inline(never)]
 fn without_top<A: Allocator>(mut top: Box<Branch<A>, A>) -> Tree<A>
     requires around { IsAround (entry_of top.value) top.value.left.entries top.value.right.entries }
@@ -75,7 +75,7 @@ fn without_top<A: Allocator>(mut top: Box<Branch<A>, A>) -> Tree<A>
     }
 }
 
-// One such entry less, where there is one; it tells whether there was.
+// Removes one entry with this span and number, if there is one. Returns whether there was.
 pub fn remove<A: Allocator>(tree: &mut Tree<A>, span: Span, id: usize) -> bool
     requires room { tree.old.height ≤ 199 }
     ensures entries { Removes result (record { period = span_of span; id = id })

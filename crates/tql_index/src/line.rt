@@ -1,9 +1,9 @@
-//! Where a point of a group lies on the line of all groups.
+//! The places of the points of all groups on one line.
 ghost use Rattle.std.specs.Prelude.{◌≡◌, int_lt};
 ghost use Rattle.std.specs.Int.{int_max};
 ghost use Rattle.tql_index.specs.Line.{place_of, first_place};
 
-// A point of a group. Places are in the order of their groups, and those of a group in that of their points.
+// A point of a group. Places are ordered by group, then by point.
 #[derive(Clone, Copy)]
 pub struct Place {
     pub group: i64,
@@ -11,14 +11,14 @@ pub struct Place {
 }
 
 impl Place {
-    // The place of a point in group 0.
+    // Returns the place of a point in group 0.
     pub fn of(point: i64) -> Place
         ensures { place_of result ≡ point }
     {
         Place { group: 0, point }
     }
 
-    // The first place of the line.
+    // Returns the first place of the line.
     pub fn first() -> Place
         ensures { place_of result ≡ first_place }
     {
@@ -28,7 +28,7 @@ impl Place {
         }
     }
 
-    // Whether it lies before another.
+    // Whether this place is before another.
     pub fn is_before(self, other: Place) -> bool
         ensures { result ≡ int_lt (place_of self) (place_of other) }
     {
@@ -39,7 +39,7 @@ impl Place {
         }
     }
 
-    // The later of two places.
+    // Returns the later of two places.
     pub fn later(self, other: Place) -> Place
         ensures { place_of result ≡ int_max (place_of self) (place_of other) }
     {

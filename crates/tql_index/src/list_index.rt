@@ -1,4 +1,4 @@
-//! The index as a plain list.
+//! An index that is a plain list.
 ghost use Rattle.std.specs.Prelude.{◌≡◌, ◌↔◌, ◌<◌, [], length, map, slice_index_or, Contains, IsTrue, IfSome, IfNone};
 ghost use Rattle.std.specs.Bool.{OnTrue, OnFalse};
 ghost use Rattle.tql_index.specs.ListEntries.{entry_held};
@@ -31,7 +31,7 @@ fn is_same(entry: ListEntry, wanted: ListEntry) -> bool
         .is_eq()
 }
 
-// The first place of an entry.
+// Returns the first position of an entry in the list, if it is there.
 fn place_of(entries: &[ListEntry], wanted: ListEntry) -> Option<usize>
     ensures within { IfSome result (λ k. k < length entries.now) }
     ensures found { IfSome result (λ k. (d : _) →
@@ -46,7 +46,7 @@ fn place_of(entries: &[ListEntry], wanted: ListEntry) -> Option<usize>
     None
 }
 
-/// An index that is a plain list, each of whose entries is looked at. It is seen as its entries.
+/// An index that is a plain list. A search looks at each entry. Its model is the list of entries.
 #[derive(Drop)]
 pub struct ListIndex {
     memory: Memory,
@@ -65,14 +65,14 @@ impl Model for ListIndex {
 }
 
 impl ListIndex {
-    /// How many entries it has.
+    /// Returns the number of entries.
     pub fn len(&self) -> usize
         ensures { result ≡ length self.now }
     {
         self.held.len()
     }
 
-    /// Whether it has no entry.
+    /// Whether there are no entries.
     pub fn is_empty(&self) -> bool
         ensures { IsTrue result ↔ (self.now ≡ []) }
     {

@@ -1,4 +1,4 @@
-//! What a tree answers: the numbers of the entries at a point, and of those that share one with a period.
+//! Searches a tree for the entries that contain a point or share a point with a period.
 ghost use Rattle.std.specs.Prelude.{◌≡◌, ◌++◌, OnOk, OnErr};
 ghost use Rattle.tql_index.specs.Entry.{id_if, ids_at, ids_sharing};
 ghost use Rattle.tql_index.specs.Line.{place_of};
@@ -10,7 +10,7 @@ use crate::tree::Tree;
 use std::alloc::{AllocError, Allocator};
 use tql_memory::Memory;
 
-// Adds the number where it is asked for.
+// Appends the number to `found` if it is wanted.
 pub fn push_if(found: &mut Vec<usize, Memory>, wanted: bool, id: usize) -> Result<(), AllocError>
     ensures ok { OnOk result (found.new.items ≡ found.old.items ++ id_if wanted id) }
     ensures err { OnErr result (found.new.items ≡ found.old.items) }
@@ -21,8 +21,8 @@ pub fn push_if(found: &mut Vec<usize, Memory>, wanted: bool, id: usize) -> Resul
     Ok(())
 }
 
-// Adds the numbers of the entries that hold the point. It passes by each subtree that ends too early, and
-// each right side that starts too late.
+// Appends the numbers of the entries that contain the point. Skips each subtree that ends too early, and each right
+// side that starts too late.
 pub fn stab<A: Allocator>(
     tree: &Tree<A>,
     place: Place,
@@ -44,7 +44,7 @@ pub fn stab<A: Allocator>(
     stab(&top.right, place, found)
 }
 
-// Adds the numbers of the entries that share a point with the period, passing by as `stab` does.
+// Appends the numbers of the entries that share a point with the span. Skips subtrees as `stab` does.
 pub fn overlapping<A: Allocator>(
     tree: &Tree<A>,
     span: Span,

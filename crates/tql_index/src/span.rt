@@ -1,4 +1,4 @@
-//! Periods in groups: those of different groups share no point.
+//! Periods in groups. Periods of different groups share no point.
 ghost use Rattle.std.specs.Prelude.{◌≡◌};
 ghost use Rattle.std.specs.Ordering.{int_cmp, ordering_then};
 ghost use Rattle.tql_spec.specs.Period.{holds as held, share_a_point};
@@ -18,21 +18,21 @@ pub struct Span {
 }
 
 impl Span {
-    /// The points of a period, in group 0: these are their own numbers.
+    /// Returns a period in group 0, in which each point has its own number.
     pub fn of(period: Period) -> Span
         ensures { span_of result ≡ points_of period }
     {
         Span { group: 0, period }
     }
 
-    /// The points of a period, in a group.
+    /// Returns a period in a group.
     pub fn within(group: i64, period: Period) -> Span
         ensures { span_of result ≡ in_group group (points_of period) }
     {
         Span { group, period }
     }
 
-    /// All points of a group.
+    /// Returns all points of a group but `i64::MAX`.
     pub fn all(group: i64) -> Span
         ensures { span_of result ≡ all_of_group group }
     {
@@ -45,21 +45,21 @@ impl Span {
         }
     }
 
-    /// Whether the point lies in the span.
+    /// Whether the span contains the point.
     pub(crate) fn holds(self, place: Place) -> bool
         ensures { result ≡ held (span_of self) (place_of place) }
     {
         self.group == place.group && self.period.holds(place.point)
     }
 
-    /// Whether some point lies in both.
+    /// Whether two spans share a point.
     pub fn shares_a_point(self, other: Span) -> bool
         ensures { result ≡ share_a_point (span_of self) (span_of other) }
     {
         self.group == other.group && self.period.shares_a_point(other.period)
     }
 
-    /// Its first point.
+    /// Returns the first point.
     pub(crate) fn start(self) -> Place
         ensures { place_of result ≡ (span_of self).start }
     {
@@ -69,7 +69,7 @@ impl Span {
         }
     }
 
-    /// The point after its last.
+    /// Returns the point after the last one.
     pub(crate) fn end(self) -> Place
         ensures { place_of result ≡ (span_of self).end }
     {
@@ -79,7 +79,7 @@ impl Span {
         }
     }
 
-    /// The order of spans: by start, then by end.
+    /// Compares two spans: by start, then by end.
     pub(crate) fn compare(self, other: Span) -> Ordering
         ensures { result ≡ ordering_then (int_cmp (span_of self).start (span_of other).start)
             (int_cmp (span_of self).end (span_of other).end) }

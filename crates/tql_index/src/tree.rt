@@ -1,5 +1,5 @@
-//! A balanced tree of entries, seen as its entries in order and its height. Only `hold` puts a branch into a
-//! tree; `take` takes it out, to be changed in place, and `unlink` takes it apart.
+//! A balanced tree of entries. Its model is the entries in order and the height. Only `hold` puts a branch into a tree.
+//! `take` takes it out to be changed in place, and `unlink` splits a tree into its parts.
 ghost use Rattle.std.specs.Prelude.{◌≡◌, ◌+◌, ◌^◌, ◌<◌, max, [], ◌∷◌, ◌++◌, length, IfSome, IfNone};
 ghost use Rattle.tql_index.specs.Line.{place_of};
 ghost use Rattle.tql_index.specs.Spans.{span_of};
@@ -23,11 +23,11 @@ pub struct Tree<A: Allocator> {
 #[derive(Drop)]
 pub enum Root<A: Allocator> {
     Empty,
-    // The height stands beside the box, so that it is read without a look at the branch.
+    // The height is stored next to the box, so that it can be read without the branch.
     At { height: u8, top: Box<Branch<A>, A> },
 }
 
-// An entry with what lies to its left and its right, and the greatest end of all of them.
+// An entry, the entries to its left and to its right, and the greatest end of all of them.
 #[cycle(tree)]
 #[derive(Drop)]
 pub struct Branch<A: Allocator> {
@@ -38,7 +38,7 @@ pub struct Branch<A: Allocator> {
     pub right: Tree<A>,
 }
 
-// A tree that was taken apart at its top.
+// A tree that was split at its top.
 #[derive(Drop)]
 pub struct Parts<A: Allocator> {
     pub left: Tree<A>,
@@ -66,7 +66,7 @@ impl<A: Allocator> Model for Tree<A> {
 }
 
 impl<A: Allocator> Branch<A> {
-    // A branch with nothing at its sides.
+    // Creates a branch with empty sides.
     pub fn new(span: Span, id: usize) -> Branch<A>
         ensures { entry_of result ≡ record { period = span_of span; id = id } }
     {
@@ -79,14 +79,14 @@ impl<A: Allocator> Branch<A> {
         }
     }
 
-    // The order of an entry and this one: by start, then end, then number.
+    // Compares an entry with this one: by start, then by end, then by number.
     pub fn compare(&self, span: Span, id: usize) -> Ordering
         ensures { result ≡ entry_cmp (record { period = span_of span; id = id }) (entry_of self.now) }
     {
         span.compare(self.span).then(id.cmp(&self.id))
     }
 
-    // The greatest end of its entry and of those at its sides, found anew.
+    // Computes the greatest end of the branch's entry and of the entries in its sides.
     pub fn greatest_end(&self) -> Place
         ensures { place_of result ≡ greatest_end
             (self.now.left.entries ++ entry_of self.now ∷ self.now.right.entries) }
@@ -105,7 +105,7 @@ impl<A: Allocator> Tree<A> {
         Tree { root: Root::Empty }
     }
 
-    // How many branches lie on the longest way down.
+    // Returns the number of branches on the longest path down.
     pub fn height(&self) -> u8
         ensures height { result ≡ self.now.height }
     {
@@ -115,7 +115,7 @@ impl<A: Allocator> Tree<A> {
         }
     }
 
-    // What its height says of the number of its entries. It does nothing.
+    // States what the height says about the number of entries. Does nothing.
     pub fn know(&self)
         ensures shallow { IsShallow self.now.height (length self.now.entries) }
         ensures deep { length self.now.entries < 2 ^ self.now.height }
@@ -123,7 +123,7 @@ impl<A: Allocator> Tree<A> {
         let _root = &self.root;
     }
 
-    // The greatest end of its entries, and the first place of the line where it has none.
+    // Returns the greatest end of the entries, or the first place of the line if there are none.
     pub fn greatest(&self) -> Place
         ensures { place_of result ≡ greatest_end self.now.entries }
     {
@@ -133,7 +133,7 @@ impl<A: Allocator> Tree<A> {
         }
     }
 
-    // Its top; none where it has no entry.
+    // Returns the top branch, or `None` if there are no entries.
     pub fn top(&self) -> Option<&Branch<A>>
         ensures some { IfSome result (λ b. IsTop self.now b.now) }
         ensures none { IfNone result (self.now ≡ record { entries = []; height = 0 }) }
@@ -144,7 +144,7 @@ impl<A: Allocator> Tree<A> {
         }
     }
 
-    // Takes its top out, with all that lies at its sides: it leaves an empty tree.
+    // Takes out the top branch with its sides, and leaves an empty tree.
     pub fn take(&mut self) -> Option<Box<Branch<A>, A>>
         ensures some { IfSome result (λ b. IsTop self.old b.value) }
         ensures none { IfNone result (self.old ≡ record { entries = []; height = 0 }) }
@@ -156,7 +156,7 @@ impl<A: Allocator> Tree<A> {
         }
     }
 
-    // Takes the tree apart at its top.
+    // Splits the tree at its top.
     pub fn unlink(self) -> Option<Parts<A>>
         ensures some { IfSome result (IsParted self) }
         ensures none { IfNone result (self ≡ record { entries = []; height = 0 }) }
@@ -172,7 +172,7 @@ impl<A: Allocator> Tree<A> {
     }
 }
 
-// Puts a branch with what lies at its sides into a tree: it knows the greatest end, and this is its height.
+// Makes a tree of a branch with its sides. The branch's greatest end and the height must be right.
 pub fn hold<A: Allocator>(top: Box<Branch<A>, A>, height: u8) -> Tree<A>
     requires around { IsAround (entry_of top.value) top.value.left.entries top.value.right.entries }
     requires balanced { DifferByAtMost 1 top.value.left.height top.value.right.height }
@@ -191,7 +191,7 @@ pub fn hold<A: Allocator>(top: Box<Branch<A>, A>, height: u8) -> Tree<A>
     }
 }
 
-// Puts a tree together; the branch brings its entry and its memory.
+// Makes a tree of two sides and the entry between them. The branch has the entry and its memory.
 pub fn link<A: Allocator>(left: Tree<A>, mut top: Box<Branch<A>, A>, right: Tree<A>) -> Tree<A>
     requires around { IsAround (entry_of top.value) left.entries right.entries }
     requires balanced { DifferByAtMost 1 left.height right.height }

@@ -1,4 +1,4 @@
-//! The index as a balanced tree.
+//! An index that is a balanced tree.
 ghost use Rattle.std.specs.Prelude.{◌≡◌, ◌↔◌, ◌^◌, ◌<◌, ◌≤◌, [], length, IsTrue};
 ghost use Rattle.tql_index.specs.Tree.{IsShallow};
 
@@ -13,10 +13,10 @@ use std::marker::Model;
 use tql_memory::{Memory, one_more};
 use tql_period::period::Period;
 
-/// An index whose search passes by each part of its entries that ends too early or starts too late.
+/// An index whose search skips each part of the tree that ends too early or starts too late.
 ///
-/// It is a balanced tree in the order of the entries' starts, in which each branch knows the greatest end
-/// below it. It is seen as its entries.
+/// The tree is ordered by the starts of the entries, and each branch knows the greatest end below it. The model of the
+/// index is the list of its entries.
 #[derive(Drop)]
 pub struct TreeIndex {
     memory: Memory,
@@ -36,26 +36,26 @@ impl Model for TreeIndex {
 }
 
 impl TreeIndex {
-    /// How many entries it has.
+    /// Returns the number of entries.
     pub fn len(&self) -> usize
         ensures { result ≡ length self.now }
     {
         self.count
     }
 
-    /// Whether it has no entry.
+    /// Whether there are no entries.
     pub fn is_empty(&self) -> bool
         ensures { IsTrue result ↔ (self.now ≡ []) }
     {
         self.len() == 0
     }
 
-    /// How many branches lie on the longest way down: at most twice the number of binary digits of its count
-    /// of entries, so 0 where it has none.
+    /// Returns the number of branches on the longest path down. It is at most twice the number of binary digits of the
+    /// number of entries, and 0 if there are none.
     pub fn depth(&self) -> usize
         ensures shallow { IsShallow result (length self.now) }
 
-        // No tree of fewer levels has room for its entries.
+        // A tree with fewer levels has no room for these entries.
         ensures deep { length self.now < 2 ^ result }
     {
         self.tree.know();

@@ -77,7 +77,7 @@ cut_never p (b ∷ bs) e = by (ends p b) refl (cut_never (state_after p b) bs) w
 
 -- ---- the statements of what is cut
 
--- the statement of a piece in its place, where it holds one
+-- the statement of a piece with the bytes before it, where the piece contains a statement
 abbrev pub one_placed : Placed → List Placed
 one_placed p = cond (not (is_empty p.piece.text)) (p ∷ []) []
 
@@ -91,7 +91,7 @@ one_placed_and p ps = by (not (is_empty p.piece.text)) where
   by true = refl
   by false = refl
 
--- a piece behind these bytes
+-- a piece after these bytes
 abbrev pub piece_behind : List ℕ → Piece → Placed
 piece_behind ahead p = record { before = ahead ++ lead false p.text; piece = trimmed p }
 

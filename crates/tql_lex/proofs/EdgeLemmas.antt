@@ -138,7 +138,7 @@ ascii_ends (SignSort AtMostSign) text h = subst HasAsciiEnds (sym h) (symbol_end
 ascii_ends (SignSort MoreSign) text h = subst HasAsciiEnds (sym h) (single_ends 62 (omega arith))
 ascii_ends (SignSort AtLeastSign) text h = subst HasAsciiEnds (sym h) (symbol_ends 62 61 (omega arith) (omega arith))
 
--- where a token stands in a text
+-- the edges of a token in a text
 pub record TokenEdges (text : List ℕ) (start n : ℕ) : Type 0 where
   pub some : 0 < n
   pub within : start + n ≤ length text

@@ -1,4 +1,4 @@
--- What stands before a token, and behind the last.
+-- The gaps before a token and after the last one.
 use Rattle.std.proofs.Common.{◌≡◌, ℕ, ◌==◌, Bool, true, false, List, [], ◌∷◌, ◌++◌, refl, sym, ap, ◌∙◌, append_assoc}
 use Rattle.std.proofs.Common.{inl, inr}
 use Rattle.std.specs.Prelude.{◌⊎◌, not}
@@ -8,12 +8,12 @@ use Rattle.tql_spec.specs.Script.{is_blank, begins_comment, starts_with_dash, wi
 use Rattle.tql_spec.specs.Token.{IsOneLine, IsGap, nothing, blank, comment, IsEnd}
 use Rattle.tql_spec.proofs.TokenLaws.{blank_no_comment}
 
--- blanks and comments, and in a comment first its end
+-- blanks and comments; inside a comment, the gap begins with the end of the comment
 abbrev Gap : Bool → List ℕ → Type 0
 Gap false gap = IsGap gap
 Gap true gap = (words : List ℕ) × (more : List ℕ) × (gap ≡ words ++ 10 ∷ more) × IsOneLine words × IsGap more
 
--- such a gap, and then the rest
+-- the bytes are such a gap followed by the rest
 record Behind (in_comment : Bool) (bytes rest : List ℕ) : Type 0 where
   gap : List ℕ
   parts : bytes ≡ gap ++ rest
@@ -85,7 +85,7 @@ gap_behind false (x ∷ y ∷ bs) b rest e =
 
 -- ---- blanks and comments up to the end
 
--- the same, and in a comment first its end, if it has one
+-- the same; inside a comment, the bytes begin with the end of the comment, if it has one
 abbrev Ends : Bool → List ℕ → Type 0
 Ends false bytes = IsEnd bytes
 Ends true bytes = IsOneLine bytes ⊎

@@ -1,4 +1,4 @@
--- What a splitter holds, from byte to byte and from statement to statement.
+-- The invariant of a splitter, from byte to byte and from statement to statement.
 use Rattle.std.proofs.Common.{◌≡◌, ℕ, suc, ◌+◌, ◌<◌, ◌≤◌, ◌==◌, Bool, true, false, cond, List, [], ◌∷◌, ◌++◌, length}
 use Rattle.std.proofs.Common.{take, drop, Option, Some, None, refl, sym, subst, ap, ◌∙◌, arith, append_assoc}
 use Rattle.std.proofs.Common.{append-nil}
@@ -48,9 +48,9 @@ feeds_more before looked b old new was is =
     by false q is on = let none : line_feeds (b ∷ []) ≡ 0 = rw q refl in
         is ∙ was ∙ ap capped (omega (arith, on, none))
 
--- ---- one byte is looked at
+-- ---- one byte is scanned
 
--- what has begun has bytes
+-- a text that has begun has bytes
 begun_filled : (kept : Kept) (text : List ℕ) → Shows kept text → is_begun kept ≡ true → 0 < length text
 begun_filled Nothing text shows e = let no : false ≡ true = e in absurd cc
 begun_filled Dash text shows e = omega (arith, ap length shows)
@@ -58,7 +58,7 @@ begun_filled (Whole t) text shows e = shows.1.filled
 begun_filled Overlong text shows e = shows.1.filled
 begun_filled Lost text shows e = shows.1.filled
 
--- what has not begun has none
+-- a text that has not begun has none
 no_text : (kept : Kept) (text : List ℕ) → Shows kept text → is_begun kept ≡ false → text ≡ []
 no_text Nothing text shows e = shows
 no_text Dash text shows e = let no : true ≡ false = e in absurd cc
@@ -66,7 +66,7 @@ no_text (Whole t) text shows e = let no : true ≡ false = e in absurd cc
 no_text Overlong text shows e = let no : true ≡ false = e in absurd cc
 no_text Lost text shows e = let no : true ≡ false = e in absurd cc
 
--- what is not given out is kept
+-- a text that was not returned is kept
 pub kept_still : (given : Bool) (kept : Kept) → given ≡ false → kept_now given kept ≡ kept
 kept_still true kept e = let no : true ≡ false = e in absurd cc
 kept_still false kept e = refl
@@ -103,7 +103,7 @@ reads_more b old new before looked r l still goes =
           (m.at some) r.begun r.feeds l.begun;
     }
 
--- the bytes that are left are cut one byte further on
+-- the split of the bytes that are left moves one byte on
 moved : (skipped looked rest : List ℕ) (b : ℕ)
     → (skipped ++ looked) ++ b ∷ rest ≡ (skipped ++ (looked ++ b ∷ [])) ++ rest
 moved skipped looked rest b =
@@ -129,14 +129,14 @@ pub one_at_most : (t : Bool) → one_if t ≤ 1
 one_at_most true = omega arith
 one_at_most false = omega arith
 
--- how much is left to do is no more
+-- the measure of the work that is left does not increase
 pub looked_less : (b : ℕ) (old new : Stream) → LooksAt b old new → to_do new ≤ to_do (with_byte b old)
 looked_less b old new l =
     let few = one_at_most (is_begun (kept_now new.given new.kept)) in omega (arith, few, ap length l.ready)
 
 -- ---- the end of a piece
 
--- a splitter that has given out what it kept
+-- a splitter that has returned its text
 fresh : (s : Stream) (before : List ℕ) → s.place ≡ Outside → kept_now s.given s.kept ≡ Nothing
     → s.feeds ≡ capped (line_feeds before) → Reads s before []
 fresh s before place kept feeds = record {
@@ -151,7 +151,7 @@ fresh s before place kept feeds = record {
   begun = λ some. absurd (omega (arith, some));
 }
 
--- what is begun is given out, and nothing is kept
+-- a text that has begun is returned, and nothing is kept
 given_out : (given : Bool) (kept : Kept) → given ≡ is_begun kept → kept_now given kept ≡ Nothing
 given_out given Nothing e = by given where
   by : (g : Bool) → kept_now g Nothing ≡ Nothing
@@ -162,7 +162,7 @@ given_out given (Whole t) e = ap (λ (g : Bool). kept_now g (Whole t)) e
 given_out given Overlong e = ap (λ (g : Bool). kept_now g Overlong) e
 given_out given Lost e = ap (λ (g : Bool). kept_now g Lost) e
 
--- what is kept where the text ends
+-- the kept text where the text ends
 ended_text : (old new : Kept) (text : List ℕ) → Shows old text → Ends old new
     → (is_begun new ≡ is_begun old) × (is_begun new ≡ true → Keeps text new)
 ended_text Nothing new text shows e = (ap is_begun e, λ b. let no : false ≡ true = ap is_begun (sym e) ∙ b in absurd cc)
@@ -198,7 +198,7 @@ placed_close ahead looked rest more b whole end =
     (ahead ++ looked ++ 59 ∷ [])
     (z ++ (rest ++ more))) back
 
--- what is passed with a piece and its `;`
+-- the bytes that are passed with a piece and its `;`
 passed_with : (passed skipped looked : List ℕ)
     → passed ++ (skipped ++ looked ++ 59 ∷ []) ≡ (passed ++ skipped) ++ looked ++ 59 ∷ []
 passed_with passed skipped looked =
@@ -208,13 +208,13 @@ passed_with passed skipped looked =
 is_end : (p : script.ScanState) (b : ℕ) → ends p b ≡ true → b ≡ 59
 is_end p b e = eqb-true b 59 (and_parts (b == 59) (script.can_end p) e).0
 
--- the bytes that are left, cut behind the `;`
+-- the bytes that are left, cut after the `;`
 left_with : (skipped looked rest : List ℕ) (b : ℕ) → b ≡ 59
     → (skipped ++ looked) ++ b ∷ rest ≡ (skipped ++ looked ++ 59 ∷ []) ++ rest
 left_with skipped looked rest b e = ap (λ (x : ℕ). (skipped ++ looked) ++ x ∷ rest) e
     ∙ sym (append_assoc (skipped ++ looked) (59 ∷ []) rest)
 
--- no line feed is passed with a `;`
+-- a `;` adds no line feed
 feeds_with : (passed skipped looked : List ℕ)
     → line_feeds ((passed ++ skipped) ++ looked) ≡ line_feeds (passed ++ (skipped ++ looked ++ 59 ∷ []))
 feeds_with passed skipped looked =
@@ -224,7 +224,7 @@ feeds_with passed skipped looked =
     omega (arith, on, none) in
     sym all ∙ ap line_feeds (sym (passed_with passed skipped looked))
 
--- what was placed up to a `;`
+-- the statements of the bytes up to a `;`, with the bytes before each
 placed_up_to : (b : ℕ) (old : Stream) (passed left : List ℕ) (h : Holds (with_byte b old) passed left)
     → ends old.place b ≡ true → (more : List ℕ)
     → placed_from passed (left ++ more) ≡ one_placed (piece_behind (passed ++ h.skipped) (finished_piece h.looked))
@@ -261,7 +261,7 @@ closed_blank b answer old new c still goes none passed left h =
           (c.feeds ∙ h.reads.feeds ∙ ap capped (feeds_with passed h.skipped h.looked));
     }
 
--- where the text ends that stands in what was looked at
+-- the lead of the scanned bytes is the bytes before the text
 lead_is : (looked ahead text : List ℕ) → looked ≡ ahead ++ text → without_lead false looked ≡ text
     → lead false looked ≡ ahead
 lead_is looked ahead text parts is =
@@ -272,7 +272,7 @@ lead_is looked ahead text parts is =
     omega (arith, ap length whole, length-append (lead false looked) text, length-append ahead text) in
     sym (take_at (lead false looked) text n size) ∙ ap (take n) whole ∙ take_at ahead text n refl
 
--- the first of the statements, by where the statements stand
+-- the first of the statements, derived from the statements with the bytes before each
 first_of : (ended : Bool) (passed left used rest before : List ℕ) (p : script.Piece) (on : ℕ)
     → ((more : List ℕ) → MayFollow ended more
     → placed_from passed (left ++ more) ≡ record { before = before; piece = p } ∷ placed_from (passed ++ used)
@@ -300,7 +300,7 @@ line_is before ahead looked p begun on had is at =
     is ∙ ap (λ (n : ℕ). capped (n + 1)) had ∙ capped_on (line_feeds (before ++ ahead))
     ∙ ap capped (omega arith) ∙ ap (λ (z : List ℕ). capped (1 + line_feeds (before ++ z))) (sym at)
 
--- what is begun is given, by what a piece says
+-- what holds where a text that has begun ends: it has bytes, is kept, and has its line and its length
 record TextEnds (old new : Stream) (before looked : List ℕ) : Type 0 where
   filled : 0 < length (without_lead false looked)
   keeps : Keeps (without_lead false looked) new.kept
@@ -379,7 +379,7 @@ closed_text b answer old new c still goes some passed left h =
 
 -- ---- the end of the input
 
--- nothing is left to be looked at
+-- no bytes are left to scan
 all_looked : (skipped looked ready : List ℕ) → ready ≡ [] → skipped ++ looked ++ ready ≡ skipped ++ looked
 all_looked skipped looked ready e = ap (λ (z : List ℕ). (skipped ++ looked) ++ z) e ∙ append-nil (skipped ++ looked)
 
@@ -550,7 +550,7 @@ pub none_taken : (o : Option ℕ) (old new : List ℕ) → TakesByte old o new �
 none_taken None old new t n = t
 none_taken (Some x) old new t n = absurd (n x refl)
 
--- the loop's end: what was held at the beginning is held, and all bytes are looked at
+-- the end of the loop: the invariant holds as at the beginning, and all bytes are scanned
 pub record Reached (start now : Stream) : Type 0 where
   pub still : now.given ≡ false
   pub ended : now.ended ≡ start.ended
@@ -614,7 +614,7 @@ gives_none start now r ends = record {
   };
 }
 
--- ---- what is given
+-- ---- the result
 
 pub given_as : (A B : script.Piece → Type 0) (old new now : Stream) → GivesOne A old new → now ≡ new
     → ((p : script.Piece) → A p → B p) → GivesOne B old now

@@ -1,4 +1,4 @@
--- What is looked at of a piece, byte by byte.
+-- Scanning a piece byte by byte.
 use Rattle.std.proofs.Common.{◌≡◌, ℕ, suc, ◌<◌, ◌==◌, Bool, true, false, cond, List, [], ◌∷◌, ◌++◌, length}
 use Rattle.std.proofs.Common.{Some, None, refl, sym, subst, ap, ◌∙◌, arith, append_assoc, append-nil, length-append}
 use Rattle.std.proofs.Common.{inl, inr}
@@ -43,9 +43,9 @@ ends_at p (x ∷ xs) b e f = by (ends p x) refl (ends_at (state_after p x) xs b)
   by true q rest = absurd (some_none 0 (rw q at e))
   by false q rest = rw (q, rest (none_is (end_from (state_after p x) xs) (rw q at e)) f) refl
 
--- ---- what stands before a text
+-- ---- before a text
 
--- what follows does not change where a text begins
+-- bytes that follow do not change where a text begins
 pub text_more : (c : Bool) (xs more : List ℕ) → 0 < length (without_lead c xs)
     → without_lead c (xs ++ more) ≡ without_lead false (without_lead c xs ++ more)
 text_more true [] more h = absurd (omega (arith, h))
@@ -76,7 +76,7 @@ abbrev begin_in : Bool → ScanState
 begin_in true = InComment
 begin_in false = Outside
 
--- blanks and comments alone end outside a comment, or in one
+-- bytes that are only blanks and comments; they end outside a comment, or in one
 abbrev AreBlank : Bool → List ℕ → Type 0
 AreBlank c xs =
     ((state_behind (begin_in c) xs ≡ Outside) × ((more : List ℕ)
@@ -175,7 +175,7 @@ begun_more text b h = record {
 
 -- ---- one more byte
 
--- what was looked at with one byte more: what stands before the text, and the text
+-- the scanned bytes with one more byte, split into the bytes before the text and the text
 pub record LookedMore (b : ℕ) (looked ahead text : List ℕ) (was new : Kept) : Type 0 where
   pub ahead_now : List ℕ
   pub text_now : List ℕ
@@ -194,7 +194,7 @@ shows_kept text (Whole t) h k = (k.0, h, k.1)
 shows_kept text Overlong h k = (k, h)
 shows_kept text Lost h k = (k, h)
 
--- what has begun goes on
+-- a text that has begun continues
 goes_on : (b : ℕ) (looked ahead text : List ℕ) (was new : Kept) → is_begun was ≡ true → looked ≡ ahead ++ text
     → without_lead false looked ≡ text → HasBegun text → Shows new (text ++ b ∷ [])
     → LookedMore b looked ahead text was new
@@ -249,7 +249,7 @@ first_byte b looked ahead new false p false q on looks =
     let h = begun_one b p q in
     begins_now b looked ahead [] Nothing new refl (on ∙ h.stays []) (shows_kept (b ∷ []) new h looks)
 
--- behind blanks and comments
+-- after blanks and comments
 look_nothing : (b : ℕ) (c : Bool) (looked ahead text : List ℕ) (new : Kept) → without_lead false looked ≡ text
     → text ≡ []
     → is_comment (state_behind Outside looked) ≡ c → Looks c b Nothing new → LookedMore b looked ahead text Nothing new
@@ -271,7 +271,7 @@ look_nothing b c looked ahead text new is none comment looks =
           in_comment b = empty (not (b == 10))
       by (inr h) false e looks = let no : true ≡ false = ap is_comment (sym h.0) ∙ e in absurd cc
 
--- behind a `-`
+-- after a `-`
 look_dash : (b : ℕ) (looked ahead text : List ℕ) (new : Kept) → looked ≡ ahead ++ text
     → without_lead false looked ≡ text
     → text ≡ 45 ∷ [] → (d : Bool) → (b == 45) ≡ d → MatchBool d (new ≡ Nothing) (Keeps (45 ∷ b ∷ []) new)
@@ -295,7 +295,7 @@ look_dash b looked ahead text new parts is dash d q looks =
         at = λ _. inl (refl, refl, subst (λ (z : List ℕ). 0 < length z) (sym dash) (omega arith));
       }
 
--- one more byte is looked at
+-- one more byte is scanned
 pub looked_more : (b : ℕ) (c : Bool) (looked ahead text : List ℕ) (was new : Kept) → looked ≡ ahead ++ text
     → without_lead false looked ≡ text → is_comment (state_behind Outside looked) ≡ c → Shows was text
     → Looks c b was new → LookedMore b looked ahead text was new

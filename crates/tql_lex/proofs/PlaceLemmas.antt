@@ -1,4 +1,4 @@
--- The places of the tokens found so far.
+-- The offsets of the tokens found so far.
 use Rattle.std.proofs.Common.{◌≡◌, ℕ, false, ◌+◌, ◌-◌, ◌<◌, ◌≤◌, List, [], ◌∷◌, ◌++◌, length, take, drop, length-drop}
 use Rattle.std.proofs.Common.{refl, sym, ap, ◌∙◌, arith}
 use Rattle.std.specs.Prelude.{map, slice_range, Some, None}
@@ -12,7 +12,7 @@ use Rattle.tql_lex.specs.Tokens.{AreInPlace, token_of, sort_of}
 use Rattle.tql_lex.specs.Reading.{IsNextStart, IsTokenAt}
 use Rattle.tql_lex.proofs.TokensLemmas.{SoFar, one_more_token, no_tokens}
 
--- in place, the last one ending there
+-- the tokens are in place, and the last one ends at `end`
 abbrev pub Placed : ℕ → List Token → List ℕ → ℕ → Type 0
 Placed from [] text end = from ≡ end
 Placed from (t ∷ ts) text end =

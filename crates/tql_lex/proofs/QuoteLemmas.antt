@@ -21,7 +21,7 @@ pub quote_doubled : (whole : Option ℕ) (q : ℕ) (bs : List ℕ) (i : ℕ) →
 quote_doubled whole q bs i lt e h = h ∙ ap (λ (z : List ℕ). plus i (quote_end q true z)) (drop-cons bs i 0 lt)
     ∙ rw e (plus_more i (quote_end q false (drop (suc i) bs)) ∙ rw add-one refl)
 
--- ---- what stands in quotes
+-- ---- the content of quotes
 
 pub without_none : (q : ℕ) (bs : List ℕ) → ((rest : List ℕ) → bs ≡ q ∷ rest → ⊥) → bs ≡ without_quote q bs
 without_none q [] h = refl
@@ -61,7 +61,7 @@ content_single q (b ∷ bs) le = by (b == q) refl le where
   by true e le = absurd (let no : suc (length bs) ≤ length bs = rw e at le in omega arith)
   by false e le = rw (e, e) refl
 
--- the quote that ends a part was one of two
+-- the quote that ends a part was the first of a doubled quote
 pub goes_on_doubled : (q : ℕ) (whole done rest before behind : List ℕ) → whole ≡ done ++ content_from q false rest
     → (rest ≡ before ++ q ∷ behind) × ((i : ℕ) → i < length before → get_or before i 0 ≢ q)
     → length (without_quote q behind) < length behind
@@ -73,7 +73,7 @@ goes_on_doubled q whole done rest before behind e split lt =
     ∙ sym (append_assoc done before (q ∷ content_from q false (without_quote q behind)))
     ∙ sym (append_assoc (done ++ before) (q ∷ []) (content_from q false (without_quote q behind)))
 
--- it was not
+-- the quote that ends a part was a single quote
 pub goes_on_single : (q : ℕ) (whole done rest before behind : List ℕ) → whole ≡ done ++ content_from q false rest
     → (rest ≡ before ++ q ∷ behind) × ((i : ℕ) → i < length before → get_or before i 0 ≢ q)
     → length behind ≤ length (without_quote q behind)

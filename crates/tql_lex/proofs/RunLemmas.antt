@@ -1,4 +1,4 @@
--- Plain bytes that go on a text, all at once.
+-- Scanning a run of plain bytes that continue a text, in one step.
 use Rattle.std.proofs.Common.{◌≡◌, ℕ, suc, ◌+◌, ◌<◌, ◌≤◌, ◌==◌, Bool, true, false, List, [], ◌∷◌, ◌++◌, length, drop}
 use Rattle.std.proofs.Common.{None, refl, sym, subst, ap, ◌∙◌, arith, append_assoc, length-append, length-drop}
 use Rattle.std.specs.Prelude.{◌&&◌, ◌||◌, nat_lt, not, MatchBool}
@@ -132,7 +132,7 @@ shows_on Lost new text run e shows puts =
     subst (λ (k : Kept). Shows k (text ++ run)) (sym puts)
     (omega (arith, shows.0, length-append text run), begun_on text run shows.1)
 
--- ---- what a splitter holds
+-- ---- the state of a splitter
 
 reads_on : (old new : Stream) (before looked : List ℕ) → Reads old before looked → RunsOn old new
     → is_text old.kept ≡ true → is_steady old.place ≡ true → old.given ≡ false
@@ -175,7 +175,7 @@ holds_on old new l text steady still passed left h =
       reads = reads_on old new (passed ++ h.skipped) h.looked h.reads l text steady still;
     }
 
--- ---- a byte that ends no piece, and the plain ones behind it
+-- ---- a byte that ends no piece, and the plain bytes after it
 
 passed_on : (start mid new : Stream) → Passes start mid → RunsOn mid new → is_text mid.kept ≡ true
     → is_steady mid.place ≡ true → Passes start new

@@ -1,4 +1,4 @@
--- What texts that are one word or two say, and those that are not.
+-- Texts of one or two words, and all other texts.
 use Rattle.std.proofs.Common.{◌≡◌, ℕ, ◌+◌, Bool, true, false, List, [], ◌∷◌, ◌++◌, length, drop}
 use Rattle.std.proofs.Common.{Some, None, refl, sym, ap, ◌∙◌, subst, arith, length-drop}
 use Rattle.std.specs.Prelude.{map, ◌&&◌}
@@ -19,7 +19,7 @@ abbrev starts_with_word : List Token → Bool
 starts_with_word [] = false
 starts_with_word (t ∷ ts) = is_any_word t
 
--- tokens are those that were found, and then those of the rest
+-- the tokens are those that were found, followed by the tokens of the rest
 record GoesOn (found : List Token) (rest : List ℕ) (ts : List Token) : Type 0 where
   more : List Token
   are : AreTokens more rest
@@ -31,7 +31,7 @@ goes_on text rest found ts p a =
     let k = p.complete ts a in
     record { more = k.0; are = k.1; whole = one_list text ts (found ++ k.0) a (p.sound k.0 k.1) }
 
--- a token that is read as no word is none
+-- a token that is not read as a word is not a word
 no_word_read : (u : Token) (text rest : List ℕ) (r : IsRead u text rest) → (r.sort ≡ WordSort → ⊥)
     → is_any_word u ≡ false
 no_word_read u text rest r none = by r.sort refl r.is where
@@ -42,7 +42,7 @@ no_word_read u text rest r none = by r.sort refl r.is where
   by QuoteSort e is = ap is_any_word (sym is)
   by (SignSort s) e is = ap is_any_word (sym is)
 
--- where no word stands first, the tokens do not begin with one
+-- where no word is at the front, the tokens do not begin with one
 no_word : (rest bytes : List ℕ) (us : List Token) → without_lead false rest ≡ bytes
     → ((n : ℕ) → first_token bytes ≡ Some (WordSort, n) → ⊥) → AreTokens us rest → starts_with_word us ≡ false
 no_word rest bytes [] at none a = refl
@@ -52,7 +52,7 @@ no_word rest bytes (u ∷ us) at none a =
     ∙ token_stands u rest a.0 a.1 a.2 a.3 a.4 a.5 a.6) ∙ r.read_again in
     no_word_read u a.1 a.2 r (λ e. none (length a.1) (read ∙ ap (λ (s : Sort). Some (s, length a.1)) e))
 
--- bytes that are left are no end
+-- where bytes are left, tokens are left
 no_end : (text : List ℕ) (from start : ℕ) (us : List Token) → IsNextStart text from (Some start)
     → AreTokens us (drop from text) → us ≡ [] → ⊥
 no_end text from start us next a none =
@@ -60,11 +60,11 @@ no_end text from start us next a none =
     let gone : length (drop start text) ≡ 0 = ap length (sym next.2 ∙ end) in
     absurd (omega (arith, gone, length-drop start text, next.1))
 
--- a word found first is the token of the word
+-- the token of a word that was found is that word in upper case
 word_is : (t : code.Token) → sort_of t.kind ≡ WordSort → token_of t ≡ Word (map upper t.text.now)
 word_is t e = ap (λ (s : Sort). token_with s t.text.now) e
 
--- behind a token
+-- the offset after a token
 abbrev pub behind : code.Token → ℕ
 behind t = t.start + length t.text.now
 

@@ -1,4 +1,4 @@
--- The tokens found so far, and those of what is left.
+-- The tokens found so far, and the tokens of the rest.
 use Rattle.std.proofs.Common.{◌≡◌, ℕ, ◌+◌, ◌-◌, ◌<◌, ◌≤◌, ◌==◌, Bool, true, false, cond, List, [], ◌∷◌, ◌++◌, length}
 use Rattle.std.proofs.Common.{take, drop, None, refl, sym, ap, ◌∙◌, subst, arith, append-nil, append_assoc}
 use Rattle.std.proofs.Common.{length-append, length-drop}
@@ -12,7 +12,7 @@ use Rattle.tql_spec.proofs.TokenLaws.{end_skipped, same_first, none_some}
 use Rattle.tql_lex.proofs.CuttingLemmas.{rest_left}
 use Rattle.tql_lex.proofs.GapLemmas.{gap_before, all_skipped}
 
--- what is found is what stands before the rest
+-- the tokens found are those before the rest
 pub record SoFar (text : List ℕ) (found : List Token) (rest : List ℕ) : Type 0 where
   pub sound : (ts : List Token) → AreTokens ts rest → AreTokens (found ++ ts) text
   pub complete : (ts : List Token) → AreTokens ts text → (us : List Token) × AreTokens us rest
@@ -20,7 +20,7 @@ pub record SoFar (text : List ℕ) (found : List Token) (rest : List ℕ) : Type
 pub begin_tokens : (text : List ℕ) → SoFar text [] text
 begin_tokens text = record { sound = λ ts a. a; complete = λ ts a. (ts, a) }
 
--- the rest begins with this token, and then goes on
+-- the rest begins with this token, and then continues
 pub record Takes (rest bytes : List ℕ) (s : Sort) (n : ℕ) : Type 0 where
   pub at : without_lead false rest ≡ bytes
   pub token : first_token bytes ≡ read s n
@@ -92,9 +92,9 @@ pub no_tokens : (text rest : List ℕ) (found : List Token) → SoFar text found
     → AreTokens ts text → ⊥
 no_tokens text rest found p some none ts a = let k = p.complete ts a in no_first rest k.0 some none k.1
 
--- ---- places
+-- ---- offsets
 
--- the bytes behind the lead are the last ones
+-- the bytes after the lead are the last ones
 lead_cut : (in_comment : Bool) (bytes : List ℕ) → (used : List ℕ) × (bytes ≡ used ++ without_lead in_comment bytes)
 lead_cut in_comment [] = ([], refl)
 lead_cut true (b ∷ bs) = let k = lead_cut (not (b == 10)) bs in (b ∷ k.0, ap (λ (z : List ℕ). b ∷ z) k.1)
@@ -104,7 +104,7 @@ lead_cut false (b ∷ bs) = by (is_blank b || begins_comment b bs) (lead_cut (be
   by true k = (b ∷ k.0, ap (λ (z : List ℕ). b ∷ z) k.1)
   by false k = ([], refl)
 
--- where the first byte stands that is neither a blank nor in a comment
+-- the offset of the first byte that is neither a blank nor in a comment
 pub record IsPlace (text : List ℕ) (from start : ℕ) (bytes rest : List ℕ) : Type 0 where
   pub shorter : length rest ≤ length bytes
   pub later : from ≤ start

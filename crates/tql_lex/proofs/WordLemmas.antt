@@ -1,4 +1,4 @@
--- What the tests of words say.
+-- Correctness of the tests on words.
 use Rattle.std.proofs.Common.{◌≡◌, ◌≢◌, ◌≤◌, ℕ, List, [], ◌∷◌, length, drop, get_or, Bool, true, false, refl, sym, ap}
 use Rattle.std.proofs.Common.{◌∙◌, arith}
 use Rattle.std.specs.Prelude.{◌↔◌, map}
@@ -21,7 +21,7 @@ text_is xs ys e = (bytes_eq-Decides xs ys).0 (sym (same_bytes xs ys) ∙ e)
 text_self : (xs : List ℕ) → same_text xs xs ≡ true
 text_self xs = same_bytes xs xs ∙ (bytes_eq-Decides xs xs).1 refl
 
--- texts of which one is longer
+-- texts of different lengths are not the same
 pub other_length : (xs ys : List ℕ) → length xs ≢ length ys → false ≡ same_text (map upper xs) ys
 other_length xs ys apart = by (same_text (map upper xs) ys) refl where
   by : (t : Bool) → same_text (map upper xs) ys ≡ t → false ≡ t

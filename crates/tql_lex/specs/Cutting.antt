@@ -1,11 +1,11 @@
--- Where the pieces of a script are cut.
+-- Where a script is cut into pieces.
 use Rattle.std.specs.Prelude.{ℕ, ◌==◌, ◌&&◌, Bool, true, false, suc, List, [], ◌∷◌, Option, Some, None, if◌then◌else◌}
 use Rattle.tql_spec.specs.Script as script
 use Rattle.tql_spec.specs.Script.{state_after, can_end}
 use Rattle.tql_lex.specs.declared.scan_state.ScanState as code
 use Rattle.tql_lex.specs.declared.scan_state.ScanState.TheVariants as c
 
--- the state that a value of the code stands for
+-- the state that a value of the code represents
 abbrev pub state_of : code.ScanState → script.ScanState
 state_of c.Outside = script.Outside
 state_of c.AfterDash = script.AfterDash
@@ -13,7 +13,7 @@ state_of c.InText = script.InText
 state_of c.InName = script.InName
 state_of c.InComment = script.InComment
 
--- whether a state is that of a comment
+-- whether a state is inside a comment
 abbrev pub is_comment : script.ScanState → Bool
 is_comment script.Outside = false
 is_comment script.AfterDash = false
@@ -21,7 +21,7 @@ is_comment script.InText = false
 is_comment script.InName = false
 is_comment script.InComment = true
 
--- the state behind bytes
+-- the state after these bytes
 abbrev pub state_behind : script.ScanState → List ℕ → script.ScanState
 state_behind p [] = p
 state_behind p (b ∷ bs) = state_behind (state_after p b) bs
@@ -30,7 +30,7 @@ abbrev pub one_more : Option ℕ → Option ℕ
 one_more None = None
 one_more (Some n) = Some (suc n)
 
--- how many bytes stand before the first `;` that ends a piece
+-- the number of bytes before the first `;` that ends a piece
 abbrev pub end_from : script.ScanState → List ℕ → Option ℕ
 end_from p [] = None
 end_from p (b ∷ bs) = if (b == 59) && can_end p then Some 0 else one_more (end_from (state_after p b) bs)

@@ -1,4 +1,4 @@
--- What the parts of a splitter's work do to it.
+-- How each step of a splitter changes its state.
 use Rattle.std.specs.Prelude.{◌≡◌, ℕ, ◌+◌, ◌<◌, ◌≤◌, ◌==◌, length, Bool, true, false, List, ◌∷◌, ◌++◌, Option, Some}
 use Rattle.std.specs.Prelude.{None, drop, ◌&&◌, IsTrue, IsFalse, MatchBool, if◌then◌else◌}
 use Rattle.tql_spec.specs.Script as script
@@ -9,14 +9,14 @@ use Rattle.tql_lex.specs.Pending.{PutsAll, Looks, Ends}
 use Rattle.tql_lex.specs.Holding.{Holds}
 use Rattle.tql_lex.specs.Pieces.{GivesOne, GivesNone, Says}
 
--- bytes are put behind those that are left
+-- feeding: the bytes are appended to those that are left
 pub record Feeds (old new : Stream) (bytes : List ℕ) : Type 0 where
   pub ended : new.ended ≡ old.ended
   pub line : new.line ≡ old.line
   pub more : to_do new ≡ to_do old + length bytes
   pub holds : (passed left : List ℕ) → Holds old passed left → Holds new passed (left ++ bytes)
 
--- the end is told
+-- the end of the input is marked
 pub record Finishes (old new : Stream) : Type 0 where
   pub ended : IsTrue new.ended
   pub line : new.line ≡ old.line
@@ -24,7 +24,7 @@ pub record Finishes (old new : Stream) : Type 0 where
   pub same : to_do new ≡ to_do old
   pub holds : (passed left : List ℕ) → Holds old passed left → Holds new passed left
 
--- a byte was taken that ends no statement
+-- a byte that ends no statement was taken
 pub record Passes (old new : Stream) : Type 0 where
   pub given : IsFalse new.given
   pub ended : new.ended ≡ old.ended
@@ -33,7 +33,7 @@ pub record Passes (old new : Stream) : Type 0 where
   pub no_more : to_do new ≤ to_do old
   pub holds : (passed left : List ℕ) → Holds old passed left → Holds new passed left
 
--- the splitter with what it gave out forgotten
+-- the splitter after the text that it returned is cleared
 abbrev pub forgotten : Stream → Stream
 forgotten s = record s { kept = kept_now s.given s.kept; given = false }
 
@@ -41,7 +41,7 @@ forgotten s = record s { kept = kept_now s.given s.kept; given = false }
 abbrev pub with_byte : ℕ → Stream → Stream
 with_byte b s = record s { ready = b ∷ s.ready }
 
--- one byte more was looked at that ends no piece
+-- one more byte, which ends no piece, was scanned
 pub record LooksAt (b : ℕ) (old new : Stream) : Type 0 where
   pub kept : Looks (is_comment old.place) b old.kept new.kept
   pub given : new.given ≡ old.given
@@ -52,7 +52,7 @@ pub record LooksAt (b : ℕ) (old new : Stream) : Type 0 where
   pub begun : new.begun ≡ (if is_begun old.kept then old.begun else old.feeds)
   pub line : new.line ≡ old.line
 
--- the plain bytes that came next were looked at, all of which go on a text
+-- the plain bytes at the front were scanned, all of which continue a text
 pub record RunsOn (old new : Stream) : Type 0 where
   pub kept : PutsAll (plain_front old.ready) old.kept new.kept
   pub ready : new.ready ≡ drop (length (plain_front old.ready)) old.ready
@@ -63,11 +63,11 @@ pub record RunsOn (old new : Stream) : Type 0 where
   pub begun : new.begun ≡ old.begun
   pub line : new.line ≡ old.line
 
--- where a text has begun and the state is steady, the plain bytes that came next were looked at; else nothing was done
+-- where a text has begun and the state is steady, the plain bytes at the front were scanned; else nothing changed
 abbrev pub LooksOn : (old new : Stream) → Type 0
 LooksOn old new = MatchBool (is_text old.kept && is_steady old.place) (RunsOn old new) (new ≡ old)
 
--- the piece ends: where a text has begun, it is given out
+-- the piece ends; if its text has begun, the text is returned
 pub record Closes (answer : Bool) (old new : Stream) : Type 0 where
   pub kept : Ends old.kept new.kept
   pub given : new.given ≡ is_begun new.kept
@@ -78,7 +78,7 @@ pub record Closes (answer : Bool) (old new : Stream) : Type 0 where
   pub feeds : new.feeds ≡ old.feeds
   pub line : new.line ≡ (if is_begun new.kept then capped (old.begun + 1) else old.line)
 
--- the next statement, by what is kept of its text and whether a `;` ended it; or none
+-- the next statement, given by its kept text and whether a `;` ended it; or none
 abbrev pub Advances : Stream → Option Bool → Stream → Type 0
 Advances old None new = GivesNone old new
 Advances old (Some finished) new = GivesOne (Says finished new.kept) old new

@@ -1,4 +1,4 @@
--- Which bytes a splitter was fed, given out and passed over.
+-- Which bytes a splitter was fed, has returned and has skipped.
 use Rattle.std.specs.Prelude.{◌≡◌, ◌≤◌, ◌<◌, ℕ, false, List, [], ◌∷◌, ◌++◌, length, None}
 use Rattle.tql_spec.specs.Script.{Outside, without_lead}
 use Rattle.tql_spec.specs.Lines.{placed_from, line_feeds}
@@ -11,7 +11,7 @@ pub record HasBegun (text : List ℕ) : Type 0 where
   pub filled : 0 < length text
   pub stays : (more : List ℕ) → without_lead false (text ++ more) ≡ text ++ more
 
--- what is kept of a text
+-- how the pending text is kept
 abbrev pub Shows : Kept → List ℕ → Type 0
 Shows Nothing text = text ≡ []
 Shows Dash text = text ≡ 45 ∷ []
@@ -19,7 +19,7 @@ Shows (Whole t) text = (t ≡ text) × HasBegun text × (length text ≤ longest
 Shows Overlong text = (longest < length text) × HasBegun text
 Shows Lost text = (room < length text) × HasBegun text
 
--- behind these bytes, these were looked at, and no `;` in them ends a piece
+-- after the bytes `before`, the bytes `looked` were scanned, and no `;` in them ends a piece
 pub record Reads (s : Stream) (before looked : List ℕ) : Type 0 where
   pub place : s.place ≡ state_behind Outside looked
   pub whole : end_from Outside looked ≡ None
@@ -31,8 +31,8 @@ pub record Reads (s : Stream) (before looked : List ℕ) : Type 0 where
   pub feeds : s.feeds ≡ capped (line_feeds (before ++ looked))
   pub begun : 0 < length text → s.begun ≡ capped (line_feeds (before ++ ahead))
 
--- A splitter was fed bytes. Those that it has passed were given out, or hold no statement; those that are left begin
--- with pieces that hold no statement, and of the next piece these bytes were looked at.
+-- The splitter was fed `passed` and then `left`. The bytes `passed` were returned, or contain no statement. `left` is
+-- `skipped` (pieces without a statement), `looked` (the scanned bytes of the next piece) and the bytes not yet scanned.
 pub record Holds (s : Stream) (passed left : List ℕ) : Type 0 where
   pub skipped : List ℕ
   pub looked : List ℕ

@@ -1,4 +1,4 @@
--- What a splitter is once the piece that it gave is no longer borrowed.
+-- The state of a splitter when the borrow of the returned piece has ended.
 use Rattle.std.specs.Prelude.{Option}
 use Rattle.std.specs.Borrow.{Fml, MutBor}
 use Rattle.std.specs.Io.BufRead.{Rests}

@@ -1,4 +1,4 @@
--- What a splitter gives.
+-- The pieces that a splitter returns.
 use Rattle.std.specs.Prelude.{◌≡◌, ℕ, ◌+◌, ◌<◌, ◌≤◌, ◌++◌, not, Bool, IsTrue, IsFalse, List, [], ◌∷◌, length}
 use Rattle.std.specs.Prelude.{Option, Some, None}
 use Rattle.std.specs.List.{list_all}
@@ -11,23 +11,23 @@ use Rattle.tql_lex.specs.Holding.{Holds}
 use Rattle.tql_lex.specs.declared.piece.Piece.{Piece}
 use Rattle.tql_lex.specs.declared.piece.Piece.TheVariants.{Text, TooLong, NoMemory, Unfinished}
 
--- the piece stands for the statement; that memory was refused stands for any that has more bytes than there is room for
+-- the piece represents the statement; `NoMemory` represents any statement of more than `room` bytes
 abbrev pub StandsFor : Piece → script.Piece → Type 0
 StandsFor (Text t) p = (p.text ≡ t.now) × IsTrue p.finished × (length t.now ≤ longest)
 StandsFor TooLong p = longest < length p.text
 StandsFor NoMemory p = room < length p.text
 StandsFor (Unfinished t) p = (p.text ≡ t.now) × IsFalse p.finished × (length t.now ≤ longest)
 
--- what is kept of a text that has ended, by a `;` or without one, is that of the statement
+-- the kept text, which has ended with a `;` or without one, is that of the statement
 abbrev pub Says : Bool → Kept → script.Piece → Type 0
 Says finished kept p = (p.finished ≡ finished) × Keeps p.text kept
 
--- what may still come: after the end nothing
+-- the bytes that may still follow: none after the end of the input
 abbrev pub MayFollow : Bool → List ℕ → Type 0
 MayFollow ended more = IsTrue ended → more ≡ []
 
--- Behind the bytes that were passed, the statement is the first of those left, whatever may still follow. What stands
--- up to its end is used, and the rest is left. It stands on this line.
+-- After the bytes `passed`, `p` is the first statement of `left`, whatever may still follow. The bytes `used` reach to
+-- its end, and `rest` remains. The statement begins on the line `on`.
 pub record IsFirst (ended : Bool) (passed left used rest : List ℕ) (p : script.Piece) (on : ℕ)
     : Type 0 where
   pub given : (more : List ℕ) → MayFollow ended more → statements (left ++ more) ≡ p ∷ statements (rest ++ more)
@@ -45,7 +45,7 @@ pub record HasNone (ended : Bool) (left : List ℕ) : Type 0 where
   pub whole : IsTrue (list_all (λ (p : script.Piece). not p.finished) (statements left))
   pub at_end : IsTrue ended → statements left ≡ []
 
--- the next statement was taken, and it is as this says
+-- the next statement was taken, and it satisfies `Is`
 pub record Takes (Is : script.Piece → Type 0) (new : Stream) (passed left : List ℕ) : Type 0 where
   pub piece : script.Piece
   pub is : Is piece
@@ -54,18 +54,18 @@ pub record Takes (Is : script.Piece → Type 0) (new : Stream) (passed left : Li
   pub first : IsFirst new.ended passed left used rest piece new.line
   pub holds : Holds new (passed ++ used) rest
 
--- no statement was taken, and the splitter holds what it held
+-- no statement was taken, and the same bytes are passed and left
 pub record TakesNone (new : Stream) (passed left : List ℕ) : Type 0 where
   pub none : HasNone new.ended left
   pub holds : Holds new passed left
 
--- the next statement, whatever the splitter was fed; only that one is taken
+-- exactly one statement is taken, the next one, whatever the splitter was fed
 pub record GivesOne (Is : script.Piece → Type 0) (old new : Stream) : Type 0 where
   pub ended : new.ended ≡ old.ended
   pub fewer : to_do new < to_do old
   pub takes : (passed left : List ℕ) → Holds old passed left → Takes Is new passed left
 
--- none: all bytes that were fed are looked at
+-- no statement: all bytes that were fed are scanned
 pub record GivesNone (old new : Stream) : Type 0 where
   pub ended : new.ended ≡ old.ended
   pub line : new.line ≡ old.line

@@ -1,4 +1,4 @@
--- What the code reads of a token.
+-- How the values of the code represent the reading of a token.
 use Rattle.std.specs.Prelude.{◌≡◌, ℕ, ◌+◌, ◌<◌, ◌≤◌, false, List, [], length, drop, take, Option, Some, None}
 use Rattle.tql_spec.specs.Script.{without_lead}
 use Rattle.tql_spec.specs.FirstToken as spec
@@ -30,7 +30,7 @@ IsNextStart text from None = without_lead false (drop from text) ≡ []
 IsNextStart text from (Some start) =
     (from ≤ start) × (start < length text) × (without_lead false (drop from text) ≡ drop start text)
 
--- the token at this place
+-- the token that starts at `start`
 abbrev pub IsTokenAt : List ℕ → ℕ → Option Token → Type 0
 IsTokenAt text start None = first_token (drop start text) ≡ None
 IsTokenAt text start (Some t) =

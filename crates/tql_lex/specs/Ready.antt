@@ -1,7 +1,7 @@
--- The bytes that are still to be looked at, one after another.
+-- The bytes that are not scanned yet.
 use Rattle.std.specs.Prelude.{◌≡◌, ℕ, List, [], ◌∷◌, Option, Some, None}
 
--- the first of the bytes is taken; None where there is none
+-- the first byte is removed and returned; None where there is none
 abbrev pub TakesByte : (old : List ℕ) → Option ℕ → (new : List ℕ) → Type 0
 TakesByte old None new = (old ≡ []) × (new ≡ [])
 TakesByte old (Some b) new = old ≡ b ∷ new

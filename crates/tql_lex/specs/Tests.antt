@@ -1,4 +1,4 @@
--- What is asked of a token.
+-- Tests on a token, and its content.
 use Rattle.std.specs.Prelude.{ℕ, Bool, true, false, List}
 use Rattle.tql_spec.specs.Words.{same_text}
 use Rattle.tql_spec.specs.Token.{Symbol, Open, Close, Comma, Dot, PlusSign, MinusSign, Star, EqualSign, UnequalSign}
@@ -32,12 +32,12 @@ abbrev pub is_word : List ℕ → Token → Bool
 is_word w (Word v) = same_text v w
 is_word w _ = false
 
--- whether the token is a word that is never a name
+-- whether the token is a reserved word, which is never a name
 abbrev pub is_reserved_word : Token → Bool
 is_reserved_word (Word w) = is_reserved w
 is_reserved_word _ = false
 
--- a word in upper case, a name or a text without its quotes, the digits of a number, a symbol
+-- the content: a word in upper case, a name or a text without its quotes, the digits of a number, a symbol
 abbrev pub content_of : Token → List ℕ
 content_of (Word w) = w
 content_of (QuotedName n) = n

@@ -1,4 +1,4 @@
--- What the tokens of the code stand for.
+-- What the tokens of the code represent.
 use Rattle.std.specs.Prelude.{◌≡◌, ℕ, ◌+◌, ◌≤◌, List, [], ◌∷◌, length, slice_range}
 use Rattle.tql_spec.specs.Token as token
 use Rattle.tql_spec.specs.FirstToken.{Sort, WordSort, NameSort, NumberSort, QuoteSort, SignSort, token_with}
@@ -30,11 +30,11 @@ sort_of k.Number = NumberSort
 sort_of k.Quote = QuoteSort
 sort_of (k.Sign x) = SignSort (symbol_of x)
 
--- the token that is written so
+-- the token with this sort and spelling
 abbrev pub token_of : Token → token.Token
 token_of t = token_with (sort_of t.kind) t.text.now
 
--- each token stands at its place in the text, none before the place given or before the end of another
+-- each token's text is in `text` at its offset; the tokens do not overlap, and none starts before `from`
 abbrev pub AreInPlace : ℕ → List Token → List ℕ → Type 0
 AreInPlace from [] text = Unit {0}
 AreInPlace from (t ∷ ts) text =

@@ -1,12 +1,12 @@
-//! Columns: how many characters of a line stand before a byte.
+//! Columns: the number of characters before a byte on its line.
 
-/// Whether a byte is the first one of a character of UTF-8.
+/// Whether a byte may begin a UTF-8 character, that is, it is not a continuation byte.
 fn begins_character(byte: u8) -> bool {
     byte & 0xc0 != 0x80
 }
 
-/// How many characters of its line stand before a byte: before the next one that is looked at, before the text that was
-/// begun, and before the one that was given last.
+/// Three columns: of the next byte to scan, of the pending text's first byte, and of the first byte of the text that
+/// was returned last.
 #[derive(Clone, Copy, Debug)]
 pub(crate) struct Columns {
     passed: u64,
@@ -15,7 +15,7 @@ pub(crate) struct Columns {
 }
 
 impl Columns {
-    /// Before the first byte of a script.
+    /// Returns the columns at the start of a script.
     pub(crate) fn new() -> Columns {
         Columns {
             passed: 0,
@@ -24,22 +24,22 @@ impl Columns {
         }
     }
 
-    /// Those before the text that was given last.
+    /// Returns the column of the text that was returned last.
     pub(crate) fn given(self) -> u64 {
         self.given
     }
 
-    /// A text may begin at the next byte.
+    /// Records that a text may begin at the next byte.
     pub(crate) fn begin(&mut self) {
         self.begun = self.passed;
     }
 
-    /// The text that was begun is given.
+    /// Records that the pending text is returned.
     pub(crate) fn give(&mut self) {
         self.given = self.begun;
     }
 
-    /// Goes past a byte. The count stays at 2^64 - 1.
+    /// Advances past a byte; a line feed resets the column. The count saturates at 2^64 - 1.
     pub(crate) fn pass(&mut self, byte: u8) {
         if byte == b'\n' {
             self.passed = 0;
@@ -48,7 +48,7 @@ impl Columns {
         }
     }
 
-    /// Goes past so many bytes of ASCII among which is no line feed.
+    /// Advances past `count` ASCII bytes, none of them a line feed. The count saturates at 2^64 - 1.
     pub(crate) fn pass_ascii(&mut self, count: usize) {
         self.passed = self.passed.saturating_add(count as u64);
     }

@@ -1,4 +1,4 @@
-//! The first token of some bytes.
+//! Finding the first token of some bytes.
 ghost use Rattle.std.specs.Prelude.{◌≡◌, ◌≤◌, ◌<◌, ◌+◌, ◌^◌, ◌==◌, false, length, IfSome};
 ghost use Rattle.std.specs.List.{prefix_len};
 ghost use Rattle.tql_spec.specs.Calendar as calendar;
@@ -30,7 +30,7 @@ pub(crate) fn is_word_byte(byte: u8) -> bool
     is_letter(byte) || is_digit(byte)
 }
 
-/// What begins at a byte.
+/// The kind of token that a byte may begin.
 #[derive(Clone, Copy)]
 pub(crate) enum Start {
     Letter,
@@ -44,7 +44,7 @@ pub(crate) enum Start {
     Nothing,
 }
 
-/// The symbols that no other byte goes on.
+/// Classifies a byte that is a symbol by itself, whatever follows it; `Nothing` for any other byte.
 fn single_start(byte: u8) -> Start
     ensures { start_view result ≡ spec.symbol_start byte }
 {
@@ -60,7 +60,7 @@ fn single_start(byte: u8) -> Start
     }
 }
 
-/// What begins at this byte.
+/// Classifies a byte by the kind of token that it may begin.
 fn start_of(byte: u8) -> Start
     ensures { start_view result ≡ spec.start_of byte }
 {
@@ -80,14 +80,14 @@ fn start_of(byte: u8) -> Start
     }
 }
 
-/// A token's kind, and how many bytes it has.
+/// A token's kind, and its length in bytes.
 #[derive(Clone, Copy)]
 pub(crate) struct Extent {
     pub(crate) kind: TokenKind,
     pub(crate) length: usize,
 }
 
-/// Whether there is a first byte, and it is this one.
+/// Whether there is a first byte, and it is `wanted`.
 fn begins_with(wanted: u8, bytes: &[u8]) -> bool
     ensures { result ≡ spec.begins (λ b. b == wanted) bytes.now }
 {
@@ -107,7 +107,7 @@ fn begins_with_letter(bytes: &[u8]) -> bool
     }
 }
 
-/// How many letters, digits and `_` these bytes begin with.
+/// Counts the letters, digits and `_` at the front.
 fn word_length(bytes: &[u8]) -> usize
     ensures value { result ≡ prefix_len token.is_word_byte bytes.now }
     ensures within { result ≤ length bytes.now }
@@ -115,7 +115,7 @@ fn word_length(bytes: &[u8]) -> usize
     bytes.iter().take_while(|byte| is_word_byte(**byte)).count()
 }
 
-/// How many digits these bytes begin with.
+/// Counts the digits at the front.
 fn digits_length(bytes: &[u8]) -> usize
     ensures value { result ≡ prefix_len calendar.is_digit bytes.now }
     ensures within { result ≤ length bytes.now }
@@ -123,7 +123,7 @@ fn digits_length(bytes: &[u8]) -> usize
     bytes.iter().take_while(|byte| is_digit(**byte)).count()
 }
 
-/// How many bytes stand behind an opening quote up to and with the closing one.
+/// Counts the bytes after an opening quote, up to and including the closing one; None where the quote is not closed.
 fn quote_end(quote: u8, bytes: &[u8]) -> Option<usize>
     ensures value { result ≡ spec.quote_end quote false bytes.now }
     ensures within { IfSome result (λ n. n ≤ length bytes.now) }
@@ -219,7 +219,7 @@ fn minus(behind: &[u8]) -> Option<Extent>
     }
 }
 
-/// The first token of these bytes.
+/// Returns the first token of these bytes; None where they do not begin with a token.
 pub(crate) fn first_token(bytes: &[u8]) -> Option<Extent>
     ensures { reading_of result ≡ spec.first_token bytes.now }
 {

@@ -1,4 +1,4 @@
-//! Words in upper case, and quotes taken off.
+//! Folding words to upper case, and removing quotes.
 ghost use Rattle.std.specs.Prelude.{◌≡◌, ◌<◌, map, false, IfOk, string_bytes};
 ghost use Rattle.tql_spec.specs.Token as token;
 ghost use Rattle.tql_spec.specs.FirstToken as spec;
@@ -7,7 +7,7 @@ ghost use Rattle.tql_spec.specs.Words.{same_text};
 use std::alloc::AllocError;
 use tql_memory::Memory;
 
-/// A letter in upper case, any other byte as it is.
+/// Returns an ASCII letter in upper case, and any other byte unchanged.
 pub(crate) fn upper(byte: u8) -> u8
     ensures { result ≡ token.upper byte }
 {
@@ -18,7 +18,7 @@ pub(crate) fn upper(byte: u8) -> u8
     }
 }
 
-/// Whether bytes are these in upper case.
+/// Whether `bytes`, folded to upper case, equal `wanted`.
 #[tactic(auto, using(crate::proofs::WordLemmas::same_bytes))]
 pub fn is_folded(bytes: &[u8], wanted: &[u8]) -> bool
     ensures { result ≡ same_text (map token.upper bytes.now) wanted.now }
@@ -38,7 +38,7 @@ pub fn is_folded(bytes: &[u8], wanted: &[u8]) -> bool
     others.is_empty()
 }
 
-/// A word in upper case.
+/// Returns a word folded to upper case. The only error is a failed allocation.
 pub fn folded(memory: Memory, word: &str) -> Result<String<Memory>, AllocError>
     ensures { IfOk result (λ s. string_bytes s ≡ map token.upper word.now) }
 {
@@ -47,7 +47,7 @@ pub fn folded(memory: Memory, word: &str) -> Result<String<Memory>, AllocError>
     Ok(folded)
 }
 
-/// A text without this quote at its front.
+/// Returns a text without the quote at its front, if one is there.
 fn without_quote(quote: char, text: &str) -> &str
     requires { quote < 128 }
     ensures { result.now ≡ spec.without_quote quote text.now }
@@ -58,7 +58,7 @@ fn without_quote(quote: char, text: &str) -> &str
     }
 }
 
-/// What stands in these quotes, each doubled quote once.
+/// Returns the content of a quoted text, with each doubled quote once. The only error is a failed allocation.
 pub fn unquoted(memory: Memory, quote: char, text: &str) -> Result<String<Memory>, AllocError>
     requires { quote < 128 }
     ensures { IfOk result (λ s. string_bytes s ≡ spec.content quote text.now) }

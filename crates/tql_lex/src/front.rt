@@ -1,4 +1,4 @@
-//! The tokens of a text as far as it is tokens, for whoever tells where reading stopped.
+//! The tokens at the front of a text, for messages that report where reading stopped.
 ghost use Rattle.std.specs.Prelude.{◌<◌, length, IfOk, IfSome};
 ghost use Rattle.tql_lex.specs.Tokens.{AreInPlace};
 
@@ -7,16 +7,16 @@ use crate::tokenizer::{next_start, token_at};
 use std::alloc::AllocError;
 use tql_memory::Memory;
 
-/// The tokens at the front of a text, and the byte behind them at which no token begins.
+/// The tokens at the front of a text, and the offset of the first byte at which no token begins.
 #[derive(Drop)]
 pub struct FrontTokens<'a> {
     pub tokens: Vec<Token<'a>, Memory>,
-    /// None where the whole text is tokens.
+    /// None where the whole text consists of tokens.
     pub broken: Option<usize>,
 }
 
-/// The tokens of a text up to the first byte at which none begins: the same as `tokens` gives, where that gives any.
-/// The only error is a refused growth.
+/// Returns the tokens of a text up to the first byte at which none begins. They are the tokens that `tokens` returns,
+/// where that succeeds. The only error is a failed allocation.
 pub fn front_tokens(memory: Memory, text: &str) -> Result<FrontTokens<'_>, AllocError>
     ensures places { IfOk result (λ f. AreInPlace 0 f.tokens.items text.now) }
     ensures broken { IfOk result (λ f. IfSome f.broken (λ n. n < length text.now)) }

@@ -1,4 +1,4 @@
-//! The statements of a script, and the tokens of a statement.
+//! The lexer: splits a script into statements, and a statement into tokens.
 #![tactic(auto)]
 
 mod columns;

@@ -1,4 +1,4 @@
-//! What is kept of a text that was begun.
+//! The pending text: the statement that is being scanned.
 ghost use Rattle.std.specs.Prelude.{◌≡◌, List, IsTrue, IfOk};
 ghost use Rattle.tql_spec.specs.Script as script;
 ghost use Rattle.tql_lex.specs.Stream.{Nothing, is_begun, is_text};
@@ -12,25 +12,25 @@ use std::alloc::AllocError;
 use std::marker::Model;
 use tql_memory::Memory;
 
-/// The bytes of a text for which room is taken at the start.
+/// The number of bytes that are allocated for a text up front.
 const ROOM: usize = 65_536;
 
-/// What is kept of a text.
+/// What is kept of the pending text.
 #[derive(Clone, Copy)]
 pub(crate) enum Holding {
     /// No text has begun.
     Nothing,
     /// A `-`, which may begin a comment.
     Dash,
-    /// The text as far as it was looked at.
+    /// The text as far as it was scanned.
     Whole,
-    /// A text that is too long.
+    /// Nothing, because the text is too long.
     Overlong,
-    /// A text for which memory was refused.
+    /// Nothing, because an allocation for the text failed.
     Lost,
 }
 
-/// The beginning of a statement's text, or that it is not kept. There is always room for 65,536 bytes.
+/// The beginning of a statement's text, or why it is not kept. There is always room for 65,536 bytes.
 #[derive(Drop)]
 pub(crate) struct PendingText {
     bytes: Vec<u8, Memory>,
@@ -50,7 +50,7 @@ impl Model for PendingText {
 }
 
 impl PendingText {
-    /// No text, and room for one of 65,536 bytes.
+    /// Creates an empty text with room for 65,536 bytes. The only error is a failed allocation.
     pub(crate) fn new(memory: Memory) -> Result<PendingText, AllocError>
         ensures { IfOk result (λ t. t ≡ Nothing) }
     {
@@ -61,7 +61,7 @@ impl PendingText {
         })
     }
 
-    /// Lets the text go.
+    /// Clears the text.
     pub(crate) fn clear(&mut self)
         ensures { self.new ≡ Nothing }
     {
@@ -76,8 +76,8 @@ impl PendingText {
         !matches!(self.holding, Holding::Nothing)
     }
 
-    /// Puts a byte of the text behind what is kept. A text of too many bytes is let go, and so is one of more than
-    /// 65,536 that finds no memory.
+    /// Appends a byte to the text. A text of more than `LONGEST` bytes is dropped, and so is one of more than 65,536
+    /// bytes for which an allocation fails.
     fn put(&mut self, byte: u8)
         ensures { Puts byte self.old self.new }
     {
@@ -104,8 +104,7 @@ impl PendingText {
         !matches!(self.holding, Holding::Nothing | Holding::Dash)
     }
 
-    /// Puts bytes that go on a text behind what is kept of it, as `put` does with each. Where none has begun it does
-    /// nothing.
+    /// Appends bytes to a text that has begun, as `put` does for each of them. It does nothing where no text has begun.
     pub(crate) fn put_all(&mut self, bytes: &[u8])
         ensures { PutsAll bytes.now self.old self.new }
     {
@@ -120,7 +119,7 @@ impl PendingText {
         }
     }
 
-    /// Looks at the next byte of a script, which may stand in a comment before the text.
+    /// Scans the next byte of a script. Blanks and comments before the text are skipped.
     pub(crate) fn look(&mut self, byte: u8, in_comment: bool)
         ensures { Looks in_comment byte self.old self.new }
     {
@@ -136,7 +135,7 @@ impl PendingText {
         }
     }
 
-    /// Ends the text: a `-` alone is one.
+    /// Ends the text. A `-` alone is a text.
     pub(crate) fn end(&mut self)
         ensures { Ends self.old self.new }
     {
@@ -145,7 +144,7 @@ impl PendingText {
         }
     }
 
-    /// The piece that a text is given as which has ended, by a `;` or without one.
+    /// Returns the piece for a text that has ended; `finished` says whether a `;` ended it.
     pub(crate) fn piece(&self, finished: bool) -> Piece<'_>
         ensures { (p : script.Piece) → Says finished self.now p → StandsFor result p }
     {

@@ -1,4 +1,4 @@
-//! The part of a stream that is still to be looked at.
+//! The part of a stream that is not scanned yet.
 ghost use Rattle.std.specs.Prelude.{◌≡◌, ◌≤◌, length, drop, IfOk, [], List};
 ghost use Rattle.tql_spec.specs.Words.{is_empty};
 ghost use Rattle.tql_lex.specs.Plain.{plain_front};
@@ -10,7 +10,7 @@ use std::alloc::AllocError;
 use std::marker::Model;
 use tql_memory::Memory;
 
-/// The bytes that were fed and not looked at: one part at the most.
+/// The bytes that were fed but not scanned yet: one part at most.
 #[derive(Drop)]
 pub(crate) struct Ready {
     bytes: Vec<u8, Memory>,
@@ -28,7 +28,7 @@ impl Model for Ready {
 }
 
 impl Ready {
-    /// No bytes, and room for a part.
+    /// Creates an empty buffer with room for one part. The only error is a failed allocation.
     pub(crate) fn new(memory: Memory) -> Result<Ready, AllocError>
         ensures { IfOk result (λ r. r ≡ List.[]) }
     {
@@ -36,7 +36,7 @@ impl Ready {
         Ok(Ready { bytes, next: 0 })
     }
 
-    /// Takes a part in the place of what there was. There is room for it.
+    /// Replaces the content with a part. It allocates nothing, as there is room for a part.
     pub(crate) fn fill(&mut self, part: &[u8])
         requires { length part.now ≤ 65_536 }
         ensures { self.new ≡ part.now }
@@ -46,7 +46,7 @@ impl Ready {
         let _taken = self.bytes.extend_from_slice(part);
     }
 
-    /// Takes the next byte.
+    /// Removes and returns the next byte.
     pub(crate) fn take(&mut self) -> Option<u8>
         ensures { TakesByte self.old result self.new }
     {
@@ -55,7 +55,7 @@ impl Ready {
         Some(byte)
     }
 
-    /// The plain bytes that it begins with.
+    /// Returns the plain bytes at the front.
     pub(crate) fn plain(&self) -> &[u8]
         ensures { result.now ≡ plain_front self.now }
     {
@@ -64,7 +64,7 @@ impl Ready {
         run
     }
 
-    /// Passes over so many bytes.
+    /// Skips `count` bytes.
     pub(crate) fn skip(&mut self, count: usize)
         requires { count ≤ length self.old }
         ensures { self.new ≡ drop count self.old }

@@ -1,4 +1,4 @@
-//! The words that are never names.
+//! The reserved words, which are never names.
 ghost use Rattle.std.specs.Prelude.{◌≡◌, ◌∷◌, ℕ, List, map};
 ghost use Rattle.std.specs.List.{list_any};
 ghost use Rattle.tql_spec.specs.Token as token;
@@ -6,7 +6,7 @@ ghost use Rattle.tql_spec.specs.Words.{same_text};
 
 use crate::folding::{is_folded, upper};
 
-/// Those of the reserved words that begin with I.
+/// The reserved words that begin with I.
 static BEGINNING_WITH_I: [&str; 8] = [
     "IMMEDIATELY",
     "IN",
@@ -18,7 +18,7 @@ static BEGINNING_WITH_I: [&str; 8] = [
     "IS",
 ];
 
-/// The reserved words (this project's choice) that begin with a letter.
+/// Returns the reserved words (this project's choice) that begin with `letter`, in upper case.
 fn beginning_with(letter: u8) -> &'static [&'static str]
     ensures { (rest : List ℕ) → list_any (λ w. same_text (letter ∷ rest) w.now) result.now
         ≡ token.is_reserved (letter ∷ rest) }
@@ -56,14 +56,14 @@ fn beginning_with(letter: u8) -> &'static [&'static str]
     }
 }
 
-/// Whether a word, in upper case, is one of these.
+/// Whether a word, folded to upper case, is one of `words`.
 fn is_any_of(word: &[u8], words: &[&str]) -> bool
     ensures { result ≡ list_any (λ w. same_text (map token.upper word.now) w.now) words.now }
 {
     words.iter().any(|other| is_folded(word, other.as_bytes()))
 }
 
-/// Whether a word, in upper case, is reserved.
+/// Whether a word, folded to upper case, is reserved.
 pub(crate) fn is_reserved(word: &[u8]) -> bool
     ensures { result ≡ token.is_reserved (map token.upper word.now) }
 {

@@ -16,7 +16,7 @@ fn begins_comment(first: u8, behind: &[u8]) -> bool
     first == b'-' && behind.first() == Some(&b'-')
 }
 
-/// The bytes from the first that is neither a blank nor in a comment.
+/// Returns the bytes from the first one that is neither a blank nor in a comment.
 pub(crate) fn without_lead(bytes: &[u8]) -> &[u8]
     ensures { result.now ≡ script.without_lead false bytes.now }
 {

@@ -1,11 +1,11 @@
-//! Where in a script a byte stands.
+//! The scanner's state: outside, in a text, in a quoted name or in a comment.
 ghost use Rattle.std.specs.Prelude.{◌≡◌, ◌≤◌, length};
 ghost use Rattle.std.specs.List.{prefix_len};
 ghost use Rattle.tql_spec.specs.Script as script;
 ghost use Rattle.tql_lex.specs.Cutting.{state_of, is_comment};
 ghost use Rattle.tql_lex.specs.Plain as spec;
 
-/// Where a byte stands, told by the bytes before it.
+/// Where a byte is, as determined by the bytes before it.
 #[derive(Clone, Copy)]
 pub(crate) enum ScanState {
     Outside,
@@ -15,7 +15,7 @@ pub(crate) enum ScanState {
     InComment,
 }
 
-/// The state behind a byte that opens or closes nothing but a text or a quoted name.
+/// Returns the state after a byte that is not a `-` and is outside texts, quoted names and comments.
 fn opened_by(byte: u8) -> ScanState
     ensures { state_of result ≡ script.opened_by byte }
 {
@@ -26,7 +26,7 @@ fn opened_by(byte: u8) -> ScanState
     }
 }
 
-/// The state behind this byte.
+/// Returns the state after this byte.
 pub(crate) fn state_after(place: ScanState, byte: u8) -> ScanState
     ensures { state_of result ≡ script.state_after (state_of place) byte }
 {
@@ -40,21 +40,21 @@ pub(crate) fn state_after(place: ScanState, byte: u8) -> ScanState
     }
 }
 
-/// Whether a byte in this state stands in a comment.
+/// Whether a byte in this state is in a comment.
 pub(crate) fn is_comment(place: ScanState) -> bool
     ensures { result ≡ is_comment (state_of place) }
 {
     matches!(place, ScanState::InComment)
 }
 
-/// Whether a byte is one of ASCII that opens and closes nothing, and ends no line and no statement.
+/// Whether a byte is plain: it is ASCII, opens and closes nothing, and ends neither a line nor a statement.
 fn is_plain(byte: u8) -> bool
     ensures { result ≡ spec.is_plain byte }
 {
     byte < 128 && !matches!(byte, b';' | b'\'' | b'"' | b'-' | b'\n')
 }
 
-/// How many plain bytes these begin with.
+/// Counts the plain bytes at the front.
 pub(crate) fn plain_length(bytes: &[u8]) -> usize
     ensures value { result ≡ prefix_len spec.is_plain bytes.now }
     ensures within { result ≤ length bytes.now }

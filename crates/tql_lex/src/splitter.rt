@@ -1,4 +1,4 @@
-//! The statements of a stream of bytes.
+//! Splitting a stream of bytes into statements.
 ghost use Rattle.std.specs.Prelude.{◌≡◌, ◌≤◌, length, List, IsFalse, IfOk};
 ghost use Rattle.tql_spec.specs.Words.{is_empty};
 ghost use Rattle.tql_lex.specs.Feeding.{Feeds, Finishes, LooksAt, LooksOn, Closes, TakesOn, Advances, forgotten};
@@ -12,28 +12,28 @@ use std::alloc::AllocError;
 use std::marker::Model;
 use tql_memory::Memory;
 
-/// The most bytes that a statement's text may have.
+/// The maximum length of a statement's text, in bytes.
 pub const LONGEST: usize = 1_048_576;
 
-/// The most bytes that a splitter is fed at once.
+/// The maximum number of bytes that a splitter is fed at once.
 pub const LONGEST_PART: usize = 65_536;
 
-/// Cuts a stream of bytes, which comes in parts, into statements. How the bytes were cut into parts does not matter. It
-/// keeps one part, and of the text that was begun the bytes that have come, up to 1,048,576.
+/// Splits a stream of bytes, which arrives in parts, into statements. The result does not depend on how the stream is
+/// divided into parts. It keeps one part, and at most 1,048,576 bytes of the pending text.
 #[derive(Drop)]
 pub struct Splitter {
     ready: Ready,
     pending: PendingText,
-    /// Whether the pending text was given out.
+    /// Whether the pending text was returned.
     given: bool,
-    /// Where the next byte stands.
+    /// The state at the next byte.
     place: ScanState,
     ended: bool,
-    /// How many line feeds were passed.
+    /// The number of line feeds that were scanned.
     feeds: u64,
-    /// How many stand before the text that was begun.
+    /// The number of line feeds before the pending text.
     begun: u64,
-    /// The line of the statement that was given last.
+    /// The line of the statement that was returned last.
     line: u64,
     /// The columns of the texts.
     columns: Columns,
@@ -63,8 +63,8 @@ impl Splitter {
     ghost use Rattle.tql_lex.specs.Holding.{Holds};
     ghost use Rattle.tql_lex.specs.Lending.{EndsAs};
 
-    /// A splitter that was fed nothing. It takes room for one part and for a text of 65,536 bytes, and keeps the memory
-    /// that a longer text grows in.
+    /// Creates a splitter that was fed nothing. It allocates room for one part and for a text of 65,536 bytes, and
+    /// keeps `memory` for longer texts. The only error is a failed allocation.
     pub fn new(memory: Memory) -> Result<Splitter, AllocError>
         ensures holds { IfOk result (λ s. Holds s List.[] List.[]) }
         ensures ready { IfOk result (λ s. s.ready ≡ List.[]) }
@@ -85,8 +85,8 @@ impl Splitter {
         })
     }
 
-    /// Adds a part of at most 65,536 bytes to what is left. It is called first, or where `next_statement` last answered
-    /// None, and takes no memory.
+    /// Feeds the next part, of at most 65,536 bytes, before the end of the input. It may be called at the start, or
+    /// after `next_statement` returned None. It allocates nothing.
     pub fn feed(&mut self, bytes: &[u8])
         requires open { IsFalse self.old.ended }
         requires drained { self.old.ready ≡ List.[] }
@@ -96,14 +96,14 @@ impl Splitter {
         self.ready.fill(bytes);
     }
 
-    /// Whether all bytes that were fed are looked at, so that the next part may be fed.
+    /// Whether all bytes that were fed are scanned, so that the next part may be fed.
     pub fn is_drained(&self) -> bool
         ensures { result ≡ is_empty self.now.ready }
     {
         self.ready.is_empty()
     }
 
-    /// Says that no more bytes come.
+    /// Marks the end of the input.
     pub fn finish(&mut self)
         ensures { Finishes self.old self.new }
     {
@@ -117,21 +117,21 @@ impl Splitter {
         self.ended
     }
 
-    /// The line of the statement that was given last, of its first byte that counts; the first line is 1, and the count
-    /// stays at 2^64 - 1.
+    /// Returns the line on which the statement that was returned last begins, after blanks and comments. The first line
+    /// is 1, and the count saturates at 2^64 - 1.
     pub fn line(&self) -> u64
         ensures { result ≡ self.now.line }
     {
         self.line
     }
 
-    /// The column of the statement that was given last, of its first byte that counts: how many characters of its line
-    /// stand before it. A byte counts as one that may begin a character of UTF-8.
+    /// Returns the column at which the statement that was returned last begins, after blanks and comments: the number
+    /// of characters before it on its line. Each byte that may begin a UTF-8 character counts as one character.
     pub fn column(&self) -> u64 {
         self.columns.given()
     }
 
-    /// Lets go of a text that was given out.
+    /// Clears the pending text if it was returned.
     fn forget(&mut self)
         ensures { self.new ≡ forgotten self.old }
     {
@@ -141,7 +141,7 @@ impl Splitter {
         }
     }
 
-    /// Looks at a byte that ends no piece.
+    /// Scans a byte that does not end a piece.
     fn look(&mut self, byte: u8)
         ensures { LooksAt byte self.old self.new }
     {
@@ -157,7 +157,7 @@ impl Splitter {
         }
     }
 
-    /// Looks at the plain bytes that come next, at once, where they go on a text.
+    /// Scans the plain bytes that come next in one step, where a text has begun and plain bytes keep the state.
     fn look_on(&mut self)
         ensures { LooksOn self.old self.new }
     {
@@ -170,7 +170,7 @@ impl Splitter {
         }
     }
 
-    /// Ends a piece, and gives its text out, if it has one.
+    /// Ends a piece, and returns whether it has a text, which then counts as returned.
     fn close(&mut self) -> bool
         ensures { Closes result self.old self.new }
     {
@@ -185,7 +185,7 @@ impl Splitter {
         self.given
     }
 
-    /// Takes a byte, and answers whether it ended a statement.
+    /// Scans a byte and, if it does not end a piece, the plain bytes after it. Returns whether it ended a statement.
     fn take(&mut self, byte: u8) -> bool
         requires { IsFalse self.old.given }
         ensures { TakesOn byte result self.old self.new }
@@ -199,7 +199,7 @@ impl Splitter {
         }
     }
 
-    /// Goes on to the end of the next statement, and answers whether a `;` ended it.
+    /// Advances to the end of the next statement, and returns whether a `;` ended it; None where there is none yet.
     fn advance(&mut self) -> Option<bool>
         ensures { Advances self.old result self.new }
     {
@@ -216,12 +216,13 @@ impl Splitter {
         None
     }
 
-    /// The next statement: its text from the first byte that is neither a blank nor in a comment up to its `;`.
-    /// It is None where the bytes that were fed hold no whole statement, and then the next part may be fed. Once the
-    /// input has ended, what no `;` ends is given as unfinished. A text of more than 1,048,576 bytes is not kept, and
-    /// is given as too long, once, where it ends. Where memory is refused for a text of more than 65,536 bytes, its
-    /// bytes are let go, and `NoMemory` is given, once, where it ends; a shorter one asks for none. The limits, and
-    /// that a `;` in a text, a quoted name or a comment ends nothing, are this project's choice.
+    /// Returns the next statement: its text from the first byte that is neither a blank nor in a comment up to its `;`.
+    /// Returns None where the bytes that were fed contain no whole statement; then the next part may be fed. After the
+    /// end of the input, a last text without a `;` is returned as `Unfinished`. A text of more than 1,048,576 bytes is
+    /// not kept, and is returned once, where it ends, as `TooLong`. If an allocation fails for a text of more than
+    /// 65,536 bytes, its bytes are dropped, and `NoMemory` is returned once, where it ends. A shorter text needs no
+    /// allocation. The limits, and that a `;` in a text, a quoted name or a comment ends nothing, are this project's
+    /// choice.
     pub fn next_statement(&mut self) -> Option<Piece<'_>>
         ensures* next { sem 𝓛 (EndsAs self.entry result) }
     {

@@ -40,10 +40,10 @@ pub enum Symbol {
     AtLeastSign,
 }
 
-/// What a token is.
+/// The kind of a token.
 #[derive(Clone, Copy, Debug)]
 pub enum TokenKind {
-    /// A letter or `_`, and then letters, digits and `_`.
+    /// A letter or `_`, followed by letters, digits and `_`.
     Word,
     /// A name in double quotes.
     QuotedName,
@@ -55,7 +55,7 @@ pub enum TokenKind {
     Sign(Symbol),
 }
 
-/// A token, its text as written, and the byte of the statement's text at which it starts.
+/// A token: its kind, its text as written, and its byte offset in the statement's text.
 #[derive(Clone, Copy, Debug)]
 pub struct Token<'a> {
     pub kind: TokenKind,
@@ -86,7 +86,7 @@ fn is_same(symbol: Symbol, other: Symbol) -> bool
 }
 
 impl<'a> Token<'a> {
-    /// Whether this is the word; its letters are given in upper case.
+    /// Whether this is the word `word`, which is given in upper case.
     #[tactic(auto, using(crate::proofs::WordLemmas::is_word_tells))]
     pub fn is_word(&self, word: &str) -> bool
         ensures value { result ≡ tests_of.is_word word.now (token_of self.now) }
@@ -98,7 +98,7 @@ impl<'a> Token<'a> {
         }
     }
 
-    /// Whether this is the symbol.
+    /// Whether this is the symbol `symbol`.
     #[tactic(auto, using(crate::proofs::WordLemmas::is_sign_tells))]
     pub fn is_sign(&self, symbol: Symbol) -> bool
         ensures value { result ≡ tests_of.is_sign (symbol_of symbol) (token_of self.now) }
@@ -110,7 +110,7 @@ impl<'a> Token<'a> {
         }
     }
 
-    /// Whether this is a word that is never a name.
+    /// Whether this is a reserved word, which is never a name.
     pub fn is_reserved(&self) -> bool
         ensures { result ≡ tests_of.is_reserved_word (token_of self.now) }
     {
@@ -120,8 +120,8 @@ impl<'a> Token<'a> {
         }
     }
 
-    /// What the token says: a word in upper case, a name or a text without its quotes, the digits of a number, a
-    /// symbol. Doubled quotes stand once. The only error is a refused growth.
+    /// Returns the content: a word in upper case, a name or a text without its quotes, the digits of a number, or a
+    /// symbol. Each doubled quote appears once. The only error is a failed allocation.
     pub fn content(&self, memory: Memory) -> Result<String<Memory>, AllocError>
         ensures { IfOk result (λ s. string_bytes s ≡ tests_of.content_of (token_of self.now)) }
     {
@@ -135,7 +135,7 @@ impl<'a> Token<'a> {
     }
 }
 
-/// How a symbol is written.
+/// Returns the spelling of a symbol.
 fn symbol_text(symbol: Symbol) -> &'static str
     ensures { result.now ≡ token.symbol_text (symbol_of symbol) }
 {

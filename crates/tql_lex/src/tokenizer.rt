@@ -1,4 +1,4 @@
-//! The tokens of a text.
+//! Splitting a text into tokens.
 ghost use Rattle.std.specs.Prelude.{◌≡◌, ◌⊎◌, ◌≤◌, List, IfOk, IfErr, length, map};
 ghost use Rattle.tql_spec.specs.Token as token;
 ghost use Rattle.tql_spec.specs.Token.{AreTokens};
@@ -11,7 +11,7 @@ use crate::token::Token;
 use tql_memory::Memory;
 use tql_value::refusal::Refusal;
 
-/// Where the first byte from here on stands that is neither a blank nor in a comment.
+/// Returns the offset of the first byte, from `from` on, that is neither a blank nor in a comment, if there is one.
 pub(crate) fn next_start(text: &str, from: usize) -> Option<usize>
     requires { from ≤ length text.now }
     ensures { IsNextStart text.now from result }
@@ -25,7 +25,7 @@ pub(crate) fn next_start(text: &str, from: usize) -> Option<usize>
     Some(bytes.len() - rest.len())
 }
 
-/// The token that starts here.
+/// Returns the token that starts at `start`; None where no token does.
 pub(crate) fn token_at(text: &str, start: usize) -> Option<Token<'_>>
     requires { start ≤ length text.now }
     ensures { IsTokenAt text.now start result }
@@ -40,14 +40,14 @@ pub(crate) fn token_at(text: &str, start: usize) -> Option<Token<'_>>
     })
 }
 
-/// The tokens of a statement's text: words, quoted names, numbers, texts and symbols, each as long as it can be.
-/// Blanks and comments part tokens (ISO/IEC 9075-2:2011, 5.2; the symbols are this project's choice).
-/// A text that is not all tokens is refused as not a statement.
+/// Returns the tokens of a statement's text: words, quoted names, numbers, texts and symbols, each as long as possible.
+/// Blanks and comments separate tokens (ISO/IEC 9075-2:2011, 5.2; the symbols are this project's choice).
+/// A text that does not consist of tokens is refused as `NotAStatement`.
 pub fn tokens(memory: Memory, text: &str) -> Result<Vec<Token<'_>, Memory>, Refusal>
     ensures tokens { IfOk result (λ ts. AreTokens (map token_of ts.items) text.now) }
     ensures places { IfOk result (λ ts. AreInPlace 0 ts.items text.now) }
 
-    // The text is not all tokens, or memory ran out.
+    // Errors: the text does not consist of tokens, or memory ran out.
     ensures refused { IfErr result (λ e. e ≡ Refusal.NotAStatement
         → (ts : List token.Token) → AreTokens ts text.now → ⊥) }
     ensures reasons { IfErr result (λ e. (e ≡ Refusal.NotAStatement) ⊎ (e ≡ Refusal.OutOfMemory)) }

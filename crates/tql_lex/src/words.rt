@@ -1,4 +1,4 @@
-//! Texts that are one word or two.
+//! Texts of one or two words.
 ghost use Rattle.std.specs.Prelude.{◌≤◌, List, IfSome, IsNone, IsFalse, length, option_map};
 ghost use Rattle.tql_spec.specs.Token as token;
 ghost use Rattle.tql_spec.specs.Token.{AreTokens};
@@ -7,7 +7,7 @@ ghost use Rattle.tql_lex.specs.SoleWords.{IsWordAt, are_words, word_tokens};
 use crate::token::{Token, TokenKind};
 use crate::tokenizer::{next_start, token_at};
 
-/// The word that starts here.
+/// Returns the word that starts at `start`; None where no word does.
 fn word_at(text: &str, start: usize) -> Option<Token<'_>>
     requires { start ≤ length text.now }
     ensures { IsWordAt text.now start result }
@@ -19,8 +19,8 @@ fn word_at(text: &str, start: usize) -> Option<Token<'_>>
     }
 }
 
-/// The words of a text whose tokens are one word or two words, as they are written; None of every other text. A quoted
-/// name is no word. It asks for no memory.
+/// Returns the words, as written, of a text whose tokens are one word or two words; None for any other text. A quoted
+/// name is not a word. It allocates nothing.
 pub fn two_words(text: &str) -> Option<(&str, Option<&str>)>
     ensures words { IfSome result (λ w. AreTokens (word_tokens w.0.now (option_map (λ v. v.now) w.1)) text.now) }
     ensures others { IsNone result → (ts : List token.Token) → AreTokens ts text.now → IsFalse (are_words ts) }

@@ -1,4 +1,4 @@
--- The texts of points are of ASCII, and no quote stands in them.
+-- The texts of dates and timestamps are ASCII, and contain no quote.
 use Rattle.std.proofs.Common.{◌≡◌, ℕ, ◌^◌, ◌<◌, ◌≤◌, List, [], ◌∷◌, ◌++◌, true, false, refl, sym, ◌∙◌, ap}
 use Rattle.std.proofs.Common.{arith, inl, inr, subst}
 use Rattle.std.proofs.lemmas.Bool.{cases_Bool, eqb-true}
@@ -13,17 +13,17 @@ use Rattle.tql_value.proofs.DayNumbers.{date-from_test}
 use Rattle.tql_result_laws.proofs.Cuts.{and_left, and_right}
 use Rattle.tql_result_laws.proofs.Words.{all_append, date_word, is_word, padded_word}
 
--- a byte of a word is of ASCII
+-- the bytes of words are ASCII
 word_ascii : (b : ℕ) → is_word b ≡ true → b < 128
 word_ascii b h = grind (arith, nat_tests)
 
--- bytes of words are
+-- a text of these bytes is ASCII
 pub words_ascii : (bs : List ℕ) → list_all is_word bs ≡ true → IsAscii bs
 words_ascii [] h = IsAscii-nil
 words_ascii (b ∷ bs) h =
     IsAscii-cons b bs (word_ascii b (and_left _ _ h)) (words_ascii bs (and_right _ _ h))
 
--- those of a date
+-- the text of a date is ASCII
 pub date_ascii : (y m d : ℕ) (bytes : List ℕ) → y < 10000 → m < 100 → d < 100 → bytes ≡ date_text (y, m, d)
     → IsAscii bytes
 date_ascii y m d bytes hy hm hd e =
@@ -33,7 +33,7 @@ date_ascii y m d bytes hy hm hd e =
 month_short : (y m : ℕ) → days_in_month y m ≤ 31
 month_short y m = grind arith
 
--- those of a date that the calendar has
+-- the same for a date within the calendar
 pub valid_ascii : (y m d : ℕ) (bytes : List ℕ) → is_date y m d ≡ true → bytes ≡ date_text (y, m, d) → IsAscii bytes
 valid_ascii y m d bytes valid e =
     let h = date-from_test y m d valid in
@@ -43,7 +43,7 @@ valid_ascii y m d bytes valid e =
     let day = h.last_day in
     date_ascii y m d bytes (omega arith) (omega arith) (omega arith) e
 
--- those of a blank and a time without its fraction
+-- a blank and a time without a fraction are ASCII
 pub clock_ascii : (h m s : ℕ) (bytes : List ℕ) → h < 100 → m < 100 → s < 100
     → bytes ≡ 32 ∷ padded 2 h ++ 58 ∷ padded 2 m ++ 58 ∷ padded 2 s → IsAscii bytes
 clock_ascii h m s bytes hh hm hs e =
@@ -54,12 +54,12 @@ clock_ascii h m s bytes hh hm hs e =
     (padded_word 2 m (omega arith)))
     (padded_word 2 s (omega arith))))
 
--- those of a fraction
+-- a fraction is ASCII
 pub fraction_ascii : (micros : ℕ) (bytes : List ℕ) → micros < 1000000 → bytes ≡ 46 ∷ padded 6 micros → IsAscii bytes
 fraction_ascii micros bytes h e =
     subst IsAscii (sym e) (words_ascii (46 ∷ padded 6 micros) (padded_word 6 micros (omega arith)))
 
--- a byte of a word is no quote
+-- the bytes of words are not quotes
 word_plain : (b : ℕ) → is_word b ≡ true → (b == 39) ≡ false
 word_plain b h = elim (cases_Bool (b == 39)) [
   | inl same ↦
@@ -67,7 +67,7 @@ word_plain b h = elim (cases_Bool (b == 39)) [
   | inr other ↦ other
 ]
 
--- what has no quote stays where quotes are doubled
+-- a text without quotes is unchanged by doubling
 pub words_plain : (bs : List ℕ) → list_all is_word bs ≡ true → doubled 39 bs ≡ bs
 words_plain [] h = refl
 words_plain (b ∷ bs) h =

@@ -1,4 +1,4 @@
--- Digits, read as the number that they spell.
+-- Digits, read as the number that they represent.
 use Rattle.std.proofs.Common.{◌≡◌, ℕ, zero, suc, ◌+◌, ◌-◌, ◌*◌, ◌/◌, ◌%◌, ◌^◌, ◌<◌, ◌≤◌, List, [], ◌∷◌, ◌++◌, true}
 use Rattle.std.proofs.Common.{refl, sym, ◌∙◌, ap, arith, length, take, drop, decimal, subst}
 use Rattle.std.proofs.lemmas.Fmt.{decimal_by_steps}
@@ -8,9 +8,9 @@ use Rattle.tql_spec.specs.Calendar.{digits_at, is_digit, number_from, number_of}
 use Rattle.tql_result_laws.proofs.Cuts.{and_both}
 use Rattle.tql_result_laws.proofs.Words.{digit_passes}
 
--- ---- so many digits at a place
+-- ---- k digits at a position
 
--- the digits that stand there
+-- the digits at a position
 digits_here : (bs : List ℕ) (i k : ℕ) (part : List ℕ) → take k (drop i bs) ≡ part → list_all is_digit part ≡ true
     → (length part == k) ≡ true → digits_at bs i k ≡ Some (number_of part)
 digits_here bs i k part is digits long = rw (is, digits, long) refl
@@ -40,7 +40,7 @@ four_here bs i n h is =
 
 -- ---- the decimal digits of a number
 
--- one digit more
+-- one more digit
 number_more : (n : ℕ) (ds : List ℕ) (b : ℕ) → number_from n (ds ++ b ∷ []) ≡ 10 * number_from n ds + (b - 48)
 number_more n [] b = refl
 number_more n (d ∷ ds) b = number_more (10 * n + (d - 48)) ds b
@@ -50,7 +50,7 @@ last_digit n ds h =
     let more = number_more 0 ds (48 + n % 10) in
     more ∙ ap (λ k. 10 * k + (48 + n % 10 - 48)) h ∙ omega arith
 
--- they are read as the number
+-- the decimal digits of a number are read as that number
 pub decimal_read : (n : ℕ) → n < 2 ^ 64 → number_of (decimal n) ≡ n
 decimal_read n h =
     decimal_by_steps (λ m ds. number_of ds ≡ m) (λ m small. omega arith) (λ m ds ten k. last_digit m ds k) n h

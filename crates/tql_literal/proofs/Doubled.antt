@@ -1,4 +1,4 @@
--- A text with each quote in it twice, cut at its first quote.
+-- A text with each quote doubled, split at its first quote.
 use Rattle.std.proofs.Common.{◌≡◌, ◌≢◌, ℕ, suc, ◌+◌, ◌<◌, List, [], ◌∷◌, ◌++◌, length, get_or, drop, refl, sym, ap, ◌∙◌}
 use Rattle.std.proofs.Common.{add-one, append_assoc, arith, subst}
 use Rattle.std.proofs.lemmas.List.{length-append}
@@ -8,7 +8,7 @@ use Rattle.std.proofs.lemmas.Bool.{eq-eqb, ne_eqb}
 use Rattle.std.specs.Prelude.{◌==◌, false}
 use Rattle.tql_spec.specs.Text.{doubled}
 
--- a text in which none stands
+-- a text without quotes
 clear : (q : ℕ) (bs : List ℕ) → ((i : ℕ) → i < length bs → get_or bs i 0 ≢ q) → doubled q bs ≡ bs
 clear q [] h = refl
 clear q (b ∷ bs) h =
@@ -16,7 +16,7 @@ clear q (b ∷ bs) h =
     let later : (i : ℕ) → i < length bs → get_or bs i 0 ≢ q = λ i lt e. h (suc i) (omega arith) e in
     rw here (ap (λ (l : List ℕ). b ∷ l) (clear q bs later))
 
--- and one behind which more stands
+-- a text with a quote, and the part after it
 front : (q : ℕ) (before behind : List ℕ) → ((i : ℕ) → i < length before → get_or before i 0 ≢ q)
     → doubled q (before ++ q ∷ behind) ≡ before ++ (q ∷ q ∷ doubled q behind)
 front q [] behind h = rw (eq-eqb q q refl) refl
@@ -25,7 +25,7 @@ front q (b ∷ before) behind h =
     let later : (i : ℕ) → i < length before → get_or before i 0 ≢ q = λ i lt e. h (suc i) (omega arith) e in
     rw here (ap (λ (l : List ℕ). b ∷ l) (front q before behind later))
 
--- one quote further
+-- the next quote was copied
 pub goes_on : (q : ℕ) (whole done rest before behind : List ℕ) → whole ≡ done ++ doubled q rest
     → (rest ≡ before ++ q ∷ behind) × ((i : ℕ) → i < length before → get_or before i 0 ≢ q)
     → whole ≡ ((done ++ before) ++ (q ∷ q ∷ [])) ++ doubled q behind
@@ -35,12 +35,12 @@ goes_on q whole done rest before behind e split =
     ∙ sym (append_assoc done before (q ∷ q ∷ doubled q behind))
     ∙ sym (append_assoc (done ++ before) (q ∷ q ∷ []) (doubled q behind))
 
--- none is left
+-- no quote is left
 pub all_doubled : (q : ℕ) (whole done rest : List ℕ) → whole ≡ done ++ doubled q rest
     → ((i : ℕ) → i < length rest → get_or rest i 0 ≢ q) → done ++ rest ≡ whole
 all_doubled q whole done rest e none = sym (e ∙ ap (λ (l : List ℕ). done ++ l) (clear q rest none))
 
--- ---- what stands behind a quote is a text
+-- ---- the part after a quote is a text
 
 at_quote : (before behind : List ℕ) → get_or (before ++ 39 ∷ behind) (length before) 0 ≡ 39
 at_quote [] behind = refl

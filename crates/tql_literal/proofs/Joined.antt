@@ -1,4 +1,4 @@
--- Parts put behind a text, one after another.
+-- Several parts appended to a text.
 use Rattle.std.proofs.Common.{◌≡◌, ℕ, List, ◌++◌, append_assoc, ap, sym, ◌∙◌}
 
 -- three parts
@@ -8,7 +8,7 @@ three old x y z a b c e f g =
     ∙ append_assoc (old ++ a) b c ∙ append_assoc old a (b ++ c)
     ∙ ap (λ (l : List ℕ). old ++ l) (sym (append_assoc a b c))
 
--- three parts that are a text
+-- three parts that together are a text
 pub three_are : (old x y z a b c text : List ℕ) → x ≡ old ++ a → y ≡ x ++ b → z ≡ y ++ c → a ++ (b ++ c) ≡ text
     → z ≡ old ++ text
 three_are old x y z a b c text e f g is =

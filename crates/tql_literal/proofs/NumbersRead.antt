@@ -1,4 +1,4 @@
--- Literals, bound to their values.
+-- Literals are bound to their values.
 use Rattle.std.proofs.Common.{◌≡◌, ℕ, suc, ◌^◌, ◌<◌, List, [], refl, ap, arith, true, decimal}
 use Rattle.std.proofs.lemmas.Bool.Decides.{nat_tests}
 use Rattle.std.specs.Prelude.{ℤ, pos, negsuc, neg_ℤ, nat_le, Option, Some, not}
@@ -17,11 +17,11 @@ use Rattle.tql_literal.proofs.Digits.{decimal_read}
 
 -- ---- cells
 
--- the cell of one primary with its sign
+-- the cell of one signed primary
 abbrev pub cell_by : Signed → CellTree
 cell_by s = ValueCell (Terms (Factors s NoFactor) NoTerm)
 
--- what its primary is bound to goes through all rules
+-- the rules that a bound primary passes through
 abbrev through : List Known → Checked Typed → Checked Typed
 through scope c =
     ((c >>= more_factors scope NoFactor) >>= more_terms scope NoTerm) >>= λ t. unless (has_aggregate t.expr)
@@ -38,7 +38,7 @@ cell_value scope s v k e = ap (λ (c : Checked Typed). (through scope c).value.e
 
 -- ---- numbers
 
--- a number within its limit
+-- a number within the limit
 number_is : (limit : ℕ) (f : ℕ → ℤ) (ds : List ℕ) (n : ℕ) → number_of ds ≡ n → nat_le n limit ≡ true
     → number limit f ds ≡ sound (typed (Literal (Int (f n))) Ints)
 number_is limit f ds n read within = rw (read, within) refl
@@ -57,7 +57,7 @@ negative_is scope n h =
 
 -- ---- points
 
--- a literal that reads as a point
+-- a literal that is read as a point
 pub literal_is : (k : Kind) (f : ℤ → Datum) (o : Option ℤ) (p : ℤ) → o ≡ Some p
     → names.literal k f o ≡ sound (typed (Literal (f p)) k)
 literal_is k f o p e = ap (names.literal k f) e

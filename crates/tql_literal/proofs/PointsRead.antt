@@ -1,4 +1,4 @@
--- The texts of points, read as these points.
+-- The texts of dates and timestamps are read as these values.
 use Rattle.std.proofs.Common.{◌≡◌, ℕ, ◌+◌, ◌-◌, ◌*◌, ◌/◌, ◌%◌, ◌<◌, ◌≤◌, List, [], ◌∷◌, ◌++◌, refl, sym, ◌∙◌, ap, arith}
 use Rattle.std.proofs.Common.{length, take, drop, nat_abs, inl, inr, true, false, ◌≤ℤ◌, ◌+ℤ◌, ◌-ℤ◌, subst}
 use Rattle.std.proofs.Math.IntN as IntN
@@ -26,13 +26,13 @@ use Rattle.tql_literal.proofs.Digits.{four_here, two_here}
 
 -- ---- dates
 
--- a date of these parts
+-- a date with these parts
 days_by : (bs : List ℕ) (y m d : ℕ) → digits_at bs 0 4 ≡ Some y → digits_at bs 5 2 ≡ Some m
     → digits_at bs 8 2 ≡ Some d → has_byte_at bs 4 45 ≡ true → has_byte_at bs 7 45 ≡ true → is_date y m d ≡ true
     → days_at_start bs ≡ Some (days_after_start y m d)
 days_by bs y m d year month day first second valid = rw (year, month, day, first, second, valid) refl
 
--- the text of a date, whatever stands behind it
+-- the text of a date, whatever follows it
 days_read : (p : Parts) (rest : List ℕ) → IsShort p → is_date p.0 p.1 p.2 ≡ true
     → days_at_start (date_bytes p ++ rest) ≡ Some (days_after_start p.0 p.1 p.2)
 days_read p rest short valid =
@@ -58,7 +58,7 @@ nat_abs-nonnegative : (z : ℤ) → pos 0 ≤ℤ z → pos (nat_abs z) ≡ z
 nat_abs-nonnegative (pos n) h = refl
 nat_abs-nonnegative (negsuc n) h = absurd (omega (arith, signed_arith))
 
--- a day is so many days after the first
+-- the number of a day, counted from the first day
 day_from_start : (d : ℤ) → IsDay d → pos (after_start start_offset d) ≡ d +ℤ pos start_offset
 day_from_start d h =
     let low = h.0 in
@@ -73,7 +73,7 @@ day_within d h =
 day_valid : (d : ℤ) → IsDay d → is_date (day_parts d).0 (day_parts d).1 (day_parts d).2 ≡ true
 day_valid d h = date-to_test _ _ _ (date_after_start-date (after_start start_offset d) (day_within d h))
 
--- a day by its date
+-- a day is determined by its date
 day_is : (d : ℤ) → IsDay d
     → pos (days_after_start (day_parts d).0 (day_parts d).1 (day_parts d).2) -ℤ pos start_offset ≡ d
 day_is d h =
@@ -85,7 +85,7 @@ day_read d h = date_read (day_parts d) (day_short d h) (day_valid d h) ∙ ap So
 
 -- ---- times of day
 
--- six digits behind a point
+-- six digits after a point
 six_read : (n : ℕ) → n < 1000000 → read_fraction (46 ∷ six_bytes n) ≡ Some n
 six_read n h =
     let a = digit_passes (n / 100000 % 10) (omega arith) in
@@ -106,7 +106,7 @@ fraction_read n h = elim (cases_Bool (n == 0)) [
       ap read_fraction (there ∙ ap (λ l. 46 ∷ l) (padded_six n h)) ∙ six_read n h
 ]
 
--- the microseconds of a day by its clock
+-- the microseconds of a day are determined by the clock
 clock_read : (micros : ℕ) → micros < day_length
     → micros_of_time (micros / 1_000_000 / 3600) (micros / 1_000_000 / 60 % 60) (micros / 1_000_000 % 60)
     (micros % 1_000_000) ≡ Some micros

@@ -1,4 +1,4 @@
--- The tokens of literals, before whatever parts itself from them.
+-- The tokens of literals, before any separator.
 use Rattle.std.proofs.Common.{◌≡◌, ℕ, suc, ◌+◌, ◌^◌, ◌<◌, List, [], ◌∷◌, ◌++◌, refl, sym, ◌∙◌, ap, arith, true, false}
 use Rattle.std.proofs.Common.{decimal, length}
 use Rattle.std.proofs.lemmas.Bool.Decides.{nat_tests}
@@ -21,7 +21,7 @@ neither_right : (a b : Bool) → (a || b) ≡ false → b ≡ false
 neither_right true b h = absurd (cc)
 neither_right false b h = h
 
--- what parts itself goes on with no word, number or text
+-- a separator continues no word, number or text
 word_longest : (w rest : List ℕ) → IsParted rest → IsLongest (Word w) rest
 word_longest w [] h = tt
 word_longest w (b ∷ rest) h = neither_left (is_word_byte b) (b == 39) h
@@ -46,7 +46,7 @@ pub quote_spelled : (t rest : List ℕ) (behind : List Token) → IsParted rest 
 quote_spelled t rest behind part others =
     ([], quoted 39 t, rest, refl, nothing, refl, quote_longest t rest part, others)
 
--- a number by its digits
+-- digits form a number
 are_number : (ds : List ℕ) → 0 < length ds → list_all is_digit ds ≡ true → is_number ds ≡ true
 are_number [] some h = absurd (omega arith)
 are_number (d ∷ ds) some h = h
@@ -59,7 +59,7 @@ pub number_spelled : (n : ℕ) (rest : List ℕ) (behind : List Token) → n < 2
 number_spelled n rest behind small part others =
     ([], decimal n, rest, refl, nothing, (decimal_number n small, refl), number_longest (decimal n) rest part, others)
 
--- a minus before a number is no beginning of a comment
+-- a minus before a digit does not begin a comment
 digit_no_minus : (b : ℕ) → is_digit b ≡ true → (b == 45) ≡ false
 digit_no_minus b h = grind (arith, nat_tests)
 
@@ -81,7 +81,7 @@ minus_spelled n rest behind small part others = (
   number_spelled n rest behind small part others,
 )
 
--- a blank and a text in quotes in which no quote stands
+-- a blank and a quoted text without quotes in it
 pub marked_spelled : (t rest : List ℕ) (behind : List Token) → doubled 39 t ≡ t → IsParted rest
     → AreTokens behind rest → AreTokens (Quote t ∷ behind) ((32 ∷ 39 ∷ (t ++ 39 ∷ [])) ++ rest)
 marked_spelled t rest behind plain part others = (

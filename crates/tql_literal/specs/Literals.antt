@@ -4,7 +4,7 @@ use Rattle.std.specs.Fmt.{signed_decimal}
 use Rattle.tql_spec.specs.Datum.{Datum, Null, Int, Text, Day, Moment}
 use Rattle.tql_spec.specs.Text.{cell_text, quoted}
 
--- the text that a statement has for a value
+-- the text that represents a value in a statement
 abbrev pub literal_text : Datum → List ℕ
 literal_text Null = codes "NULL"
 literal_text (Int n) = signed_decimal n

@@ -1,4 +1,4 @@
--- What literals are read as.
+-- How literals are read.
 use Rattle.std.specs.Prelude.{◌≡◌, ℕ, ◌||◌, ◌==◌, IsFalse, ⊤, List, [], ◌∷◌, ◌++◌, ℤ, Some}
 use Rattle.tql_spec.specs.Binding as binding
 use Rattle.tql_spec.specs.Calendar.{read_date, read_timestamp}
@@ -13,13 +13,13 @@ use Rattle.tql_result_laws.specs.ReadBack.{IsKept}
 use Rattle.tql_value.specs.Points.{IsDay, IsMoment}
 use Rattle.tql_literal.specs.Literals.{literal_text}
 
--- nothing follows, or a byte that goes on with no literal: no letter, `_`, digit or quote
+-- nothing follows, or a byte that continues no literal: no letter, `_`, digit or quote
 abbrev pub IsParted : List ℕ → Type 0
 IsParted [] = ⊤
 IsParted (b ∷ bs) = IsFalse (is_word_byte b || (b == 39))
 
--- a literal is read as this value: its tokens are read from its text before whatever parts itself from it, the grammar
--- reads them as a cell, and this is bound, in any scope, without a fault to the value
+-- a literal is read as this value. Its tokens are read from its text before any separator, and the grammar reads them
+-- as a cell. In any scope that cell is bound to the value without a fault.
 pub record ReadsBack (v : Datum) : Type 0 where
   pub tokens : List Token
   pub cell : CellTree
@@ -29,11 +29,11 @@ pub record ReadsBack (v : Datum) : Type 0 where
   pub clean : (scope : List Known) → (binding.cell scope cell).faults ≡ []
   pub value : (scope : List Known) → (binding.cell scope cell).value.expr ≡ Literal v
 
--- the law: so is that of each value that is kept
+-- the law: this is so for each value that can be stored
 abbrev pub LiteralsReadBack : Type 0
 LiteralsReadBack = (v : Datum) → IsKept v → ReadsBack v
 
--- the law: the texts of points are read as these points
+-- the law: the texts of dates and timestamps are read as these values
 pub record PointsReadBack : Type 0 where
   pub days : (d : ℤ) → IsDay d → read_date (cell_text (Day d)) ≡ Some d
   pub moments : (m : ℤ) → IsMoment m → read_timestamp (cell_text (Moment m)) ≡ Some m

@@ -1,4 +1,4 @@
-//! The literal of a value: the text that a statement has for it.
+//! The literal of a value: the text that represents it in a statement.
 ghost use Rattle.std.specs.Prelude.{◌≡◌, ◌++◌, IfOk, string_bytes};
 ghost use Rattle.std.specs.Fmt.{signed_decimal};
 ghost use Rattle.tql_spec.specs.Datum.{Day, Moment};
@@ -13,7 +13,7 @@ use std::alloc::AllocError;
 use tql_memory::Memory;
 use tql_value::value::View;
 
-/// Puts a whole number behind a literal, with `-` before a negative one.
+/// Appends an integer to a literal, with `-` before a negative one.
 fn push_int(literal: &mut String<Memory>, number: i64) -> Result<(), AllocError>
     ensures { IfOk result
         (λ _. string_bytes literal.new ≡ string_bytes literal.old ++ signed_decimal number) }
@@ -22,7 +22,7 @@ fn push_int(literal: &mut String<Memory>, number: i64) -> Result<(), AllocError>
     literal.push_str(buffer.format(number))
 }
 
-/// Puts the literal of a day behind a literal.
+/// Appends the literal of a date to a literal.
 fn push_date(literal: &mut String<Memory>, day: i64) -> Result<(), AllocError>
     requires { IsDay day }
     ensures { IfOk result
@@ -34,7 +34,7 @@ fn push_date(literal: &mut String<Memory>, day: i64) -> Result<(), AllocError>
     Ok(())
 }
 
-/// Puts the literal of a moment behind a literal.
+/// Appends the literal of a timestamp to a literal.
 fn push_timestamp(literal: &mut String<Memory>, moment: i64) -> Result<(), AllocError>
     requires { IsMoment moment }
     ensures { IfOk result
@@ -46,7 +46,7 @@ fn push_timestamp(literal: &mut String<Memory>, moment: i64) -> Result<(), Alloc
     Ok(())
 }
 
-/// Puts the literal of a value behind a literal.
+/// Appends the literal of a value to a literal.
 fn push_literal(literal: &mut String<Memory>, value: View<'_>) -> Result<(), AllocError>
     requires { IsPrintable (datum_of_view value) }
     ensures { IfOk result
@@ -61,11 +61,11 @@ fn push_literal(literal: &mut String<Memory>, value: View<'_>) -> Result<(), All
     }
 }
 
-/// The literal of a value, which a statement has where the value is meant: `NULL`; `5` and `-5`; `'it''s'`, each quote
-/// doubled; `DATE '2011-01-31'`; `TIMESTAMP '2011-01-31 09:00:00'`, with six digits behind a point where its
-/// microseconds are not zero. It is read as that value (`literals_read_back`). A blank, a comma or a parenthesis has to
-/// stand on both sides: behind a `-` that of `-5` would begin a comment. A day or a moment outside the years 1 to 9999
-/// has no literal, which `is_printable` tests. The only error is a refused growth.
+/// Returns the literal that represents a value in a statement: `NULL`; `5` and `-5`; `'it''s'`, with each quote
+/// doubled; `DATE '2011-01-31'`; `TIMESTAMP '2011-01-31 09:00:00'`, followed in the quotes by a point and six digits
+/// unless its microseconds are zero. It is read back as that value (`literals_read_back`). Put a blank, a comma or a
+/// parenthesis on both sides: directly after a `-`, the `-` of `-5` would begin a comment. A date or a timestamp
+/// outside the years 1 to 9999 has no literal; `is_printable` checks this. The only error is a refused allocation.
 pub fn literal(memory: Memory, value: View<'_>) -> Result<String<Memory>, AllocError>
     requires { IsPrintable (datum_of_view value) }
     ensures { IfOk result (λ text. string_bytes text ≡ literal_text (datum_of_view value.entry)) }

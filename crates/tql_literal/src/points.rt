@@ -1,4 +1,4 @@
-//! The texts of days and moments.
+//! The texts of dates and timestamps.
 ghost use Rattle.std.specs.Prelude.{◌≡◌, ◌<◌, ◌++◌, IfOk, string_bytes};
 ghost use Rattle.std.specs.Str.{IsAscii};
 ghost use Rattle.tql_spec.specs.Datum.{Day, Moment};
@@ -10,7 +10,7 @@ use tql_memory::Memory;
 use tql_result::number::{clock_bytes, date_bytes, fraction_bytes};
 use tql_value::calendar::{day_parts, moment_parts};
 
-/// Puts bytes of ASCII behind a text.
+/// Appends ASCII bytes to a text.
 fn push_ascii(text: &mut String<Memory>, bytes: &[u8]) -> Result<(), AllocError>
     requires { IsAscii bytes.now }
     ensures { IfOk result (λ _. string_bytes text.new ≡ string_bytes text.old ++ bytes.now) }
@@ -21,7 +21,7 @@ fn push_ascii(text: &mut String<Memory>, bytes: &[u8]) -> Result<(), AllocError>
     }
 }
 
-/// Puts the text of a day behind a text.
+/// Appends the text of a date to a text.
 pub(crate) fn push_day(text: &mut String<Memory>, day: i64) -> Result<(), AllocError>
     requires { IsDay day }
     ensures { IfOk result (λ _. string_bytes text.new ≡ string_bytes text.old ++ cell_text (Day day)) }
@@ -30,7 +30,7 @@ pub(crate) fn push_day(text: &mut String<Memory>, day: i64) -> Result<(), AllocE
     push_ascii(text, &date_bytes(parts.year, parts.month, parts.day))
 }
 
-/// Puts a point and six digits behind a text, where the microseconds of the second are not zero.
+/// Appends a point and six digits to a text, unless the microseconds of the second are zero.
 fn push_fraction(text: &mut String<Memory>, micros: u32) -> Result<(), AllocError>
     requires { micros < 1000000 }
     ensures { IfOk result (λ _. string_bytes text.new ≡ string_bytes text.old ++ fraction_text micros) }
@@ -41,7 +41,7 @@ fn push_fraction(text: &mut String<Memory>, micros: u32) -> Result<(), AllocErro
     push_ascii(text, &fraction_bytes(micros))
 }
 
-/// Puts the text of a moment behind a text.
+/// Appends the text of a timestamp to a text.
 pub(crate) fn push_moment(text: &mut String<Memory>, moment: i64) -> Result<(), AllocError>
     requires { IsMoment moment }
     ensures { IfOk result (λ _. string_bytes text.new ≡ string_bytes text.old ++ cell_text (Moment moment)) }
@@ -56,8 +56,8 @@ pub(crate) fn push_moment(text: &mut String<Memory>, moment: i64) -> Result<(), 
     Ok(())
 }
 
-/// The text of a day, given in days since 1970-01-01: `YYYY-MM-DD`. `read_date` reads it back (`points_read_back`).
-/// Whether a number is a day, `is_day` tests. The only error is a refused growth.
+/// Returns the text of a date, given in days since 1970-01-01: `YYYY-MM-DD`. `read_date` reads it back
+/// (`points_read_back`). `is_day` checks whether a number is a date. The only error is a refused allocation.
 pub fn date_text(memory: Memory, day: i64) -> Result<String<Memory>, AllocError>
     requires { IsDay day }
     ensures { IfOk result (λ text. string_bytes text ≡ cell_text (Day day)) }
@@ -67,9 +67,9 @@ pub fn date_text(memory: Memory, day: i64) -> Result<String<Memory>, AllocError>
     Ok(text)
 }
 
-/// The text of a moment, given in microseconds since 1970-01-01 00:00:00: `YYYY-MM-DD HH:MM:SS`, with six digits behind
-/// a point where its microseconds are not zero. `read_timestamp` reads it back (`points_read_back`). Whether a number
-/// is a moment, `is_moment` tests. The only error is a refused growth.
+/// Returns the text of a timestamp, given in microseconds since 1970-01-01 00:00:00: `YYYY-MM-DD HH:MM:SS`, followed by
+/// a point and six digits unless its microseconds are zero. `read_timestamp` reads it back (`points_read_back`).
+/// `is_moment` checks whether a number is a timestamp. The only error is a refused allocation.
 pub fn timestamp_text(memory: Memory, moment: i64) -> Result<String<Memory>, AllocError>
     requires { IsMoment moment }
     ensures { IfOk result (λ text. string_bytes text ≡ cell_text (Moment moment)) }

@@ -1,11 +1,11 @@
-//! Texts in quotes, each quote in them doubled.
+//! Texts in quotes, with each quote in them doubled.
 ghost use Rattle.std.specs.Prelude.{◌≡◌, ◌++◌, IfOk, string_bytes};
 ghost use Rattle.tql_spec.specs.Text.{doubled, quoted};
 
 use std::alloc::AllocError;
 use tql_memory::Memory;
 
-/// Puts a text behind a literal, each `'` in it twice.
+/// Appends a text to a literal, with each `'` doubled.
 fn push_doubled(literal: &mut String<Memory>, text: &str) -> Result<(), AllocError>
     ensures { IfOk result (λ _. string_bytes literal.new ≡ string_bytes literal.old ++ doubled 39 text.now) }
 {
@@ -19,7 +19,7 @@ fn push_doubled(literal: &mut String<Memory>, text: &str) -> Result<(), AllocErr
     Ok(())
 }
 
-/// Puts a text in quotes behind a literal, each `'` in it twice.
+/// Appends a text in quotes to a literal, with each `'` doubled.
 pub(crate) fn push_quoted(literal: &mut String<Memory>, text: &str) -> Result<(), AllocError>
     ensures { IfOk result (λ _. string_bytes literal.new ≡ string_bytes literal.old ++ quoted 39 text.now) }
 {

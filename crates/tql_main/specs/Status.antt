@@ -5,13 +5,13 @@ use Rattle.tql_run.specs.declared.runner.Fault.{Fault}
 use Rattle.clap.specs.declared.error.kind.ErrorKind.{ErrorKind}
 use Rattle.clap.specs.declared.error.kind.ErrorKind.TheVariants as kind
 
--- the status after a run: 0 where nothing was refused, 1 where something was, 3 where the run stopped
+-- the status after a run: 0 if nothing was refused, 1 if something was, 3 if the run stopped
 abbrev pub IsExitStatus : Result Summary Fault → ℕ → Type 0
 IsExitStatus r status = MatchResult r
     (λ summary. (summary.refused ≡ 0 → status ≡ 0) × (summary.refused ≢ 0 → status ≡ 1))
     (λ _. status ≡ 3)
 
--- the status of a command line that starts no run: 0 after help, 3 where memory ran out, 2 where it is wrong
+-- the status of a command line that starts no run: 0 after help or version, 3 if memory ran out, 2 if it is wrong
 abbrev pub status_of_line : ErrorKind → ℕ
 status_of_line kind.DisplayHelp = 0
 status_of_line kind.DisplayVersion = 0

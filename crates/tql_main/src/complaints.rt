@@ -11,25 +11,25 @@ use tql_run::listener::Listener;
 use tql_run::pushed::Pushed;
 use tql_value::refusal::Refusal;
 
-/// Which lines the standard error has about a run.
+/// Which lines a run writes to the standard error.
 #[derive(Clone, Copy)]
 pub(crate) struct Style {
     /// The format of the replies.
     pub format: Format,
-    /// Whether it has none about statements that are done or refused.
+    /// Whether no line is written about statements that are done or refused.
     pub quiet: bool,
 }
 
 impl Style {
-    /// Whether it has the words of statements that are done, which the replies leave out.
+    /// Whether the words of statements that are done, which the replies leave out, are written.
     fn says_done(self) -> bool {
         !self.quiet && (self.format == Format::Csv || self.format == Format::Jsonl)
     }
 }
 
 /// Writes a line to the standard error for each refused statement and, in formats for tables alone, for each other
-/// statement that has no table. A line that cannot be written is lost. It keeps the count of statements too, which
-/// includes those that no responder answers, as one that is too long.
+/// statement that has no table. A line that cannot be written is lost. It also counts the statements, including
+/// statements that no responder answers, such as one that is too long.
 #[derive(Drop)]
 pub(crate) struct Complaints<'a, E: Eprint> {
     rt: &'a E,
@@ -50,7 +50,7 @@ impl<'a, E: Eprint> Complaints<'a, E> {
         }
     }
 
-    /// Whether it writes nothing of a refusal. In plain tables it writes the line of one that could not be pushed too.
+    /// Whether no line is written for a refusal. For plain tables it is written even if the reply could not be pushed.
     fn is_silent(&self, pushed: &Pushed) -> bool {
         self.style.quiet || (self.style.format != Format::Table && pushed.outcome().is_err())
     }

@@ -1,5 +1,5 @@
 //! The engine of the program.
 use tql_index::tree_index::TreeIndex;
 
-/// The engine, which keeps closed versions, and finds rows by their values and periods, by balanced trees.
+/// The engine. Balanced trees keep its closed versions and find rows by their values and periods.
 pub(crate) type Engine = tql_engine::engine::Engine<TreeIndex>;

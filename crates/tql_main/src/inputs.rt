@@ -19,7 +19,7 @@ use tql_run::responder::Responder;
 use tql_run::runner::{Fault, Summary};
 use tql_run::std_source::StdSource;
 
-/// The end that is added to a text of the command line: its last statement needs no `;`, and may end in a comment.
+/// The end that is added to a text of the command line, whose last statement needs no `;` and may end in a comment.
 static TEXT_END: &str = "\n;";
 
 /// Returns the script of a text of the command line. The only error is a refused allocation.
@@ -37,7 +37,7 @@ pub(crate) struct Job<'r, 'i> {
     pub check: bool,
     /// Whether plans are written to the standard error.
     pub plans: bool,
-    /// Whether the standard error has no lines about statements that are done or refused.
+    /// Whether no line about statements that are done or refused is written to the standard error.
     pub quiet: bool,
     /// Whether the first refused statement ends the run.
     pub bail: bool,
@@ -54,7 +54,8 @@ impl Job<'_, '_> {
         self.rt.stdout().is_terminal() && self.rt.stderr().is_terminal()
     }
 
-    /// Returns which lines the standard error has. At a terminal it has none about a refusal in JSON, which has it all.
+    /// Returns which lines are written to the standard error. At a terminal with JSON, there are none about statements,
+    /// because the replies contain everything.
     fn style(&self) -> Style {
         let is_said = self.format == Format::Json && self.is_at_terminal();
         Style {
@@ -63,8 +64,8 @@ impl Job<'_, '_> {
         }
     }
 
-    /// Returns the form of the replies, which has written nothing. At a terminal a line of the standard error says more
-    /// of a refusal than its reply in plain text.
+    /// Returns the form of the replies, before the first reply. At a terminal, without `--quiet`, plain tables leave
+    /// out refusals, because the line on the standard error says more.
     fn output(&self, memory: Memory) -> Output {
         let is_shown = !self.quiet && self.is_at_terminal();
         Output::new(self.format, memory, is_shown)
@@ -126,7 +127,7 @@ struct Run<'a> {
 }
 
 impl<'a> Run<'a> {
-    /// Whether the run is to end here: some statement was refused, and the first one ends it.
+    /// Whether the run is to end here: `--bail` is set and a statement was refused.
     fn is_done(&self) -> bool {
         self.job.bail && self.summary.refused != 0
     }

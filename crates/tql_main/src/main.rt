@@ -1,10 +1,10 @@
 //! The program: `tql [OPTIONS] [SCRIPT]...` runs the scripts in the files SCRIPT, those of `-c TEXT`, and the standard
 //! input, on one engine, and writes the replies to the standard output. With `--check` it only checks each statement by
-//! the grammar. The standard error says which statements were refused, and where they are.
+//! the grammar. The refused statements and their lines are reported on the standard error.
 //!
-//! It exits with 0 where no statement was refused, and after help or the version; with 1 where some statement was
-//! refused; with 2 where the command line is wrong; and with 3 where opening, reading or writing failed, or memory ran
-//! out before the first statement.
+//! It exits with 0 if no statement was refused, and after help or the version; with 1 if some statement was refused;
+//! with 2 if the command line is wrong; and with 3 if opening, reading or writing failed, or memory ran out before the
+//! first statement.
 #![tactic(auto)]
 
 mod complaints;
@@ -28,7 +28,7 @@ use std::process::ExitCode;
 use tql_options::options::{CommandLine, Format, command_line};
 use tql_run::runner::Fault;
 
-/// Ends a program whose word SIZE is no number of bytes.
+/// Reports that the word SIZE is not a number of bytes, and returns the exit status.
 fn end_size(rt: &impl Eprint, word: &str) -> u8 {
     let word = Shown(word);
     let _ = eprintln!(rt;
@@ -37,7 +37,7 @@ fn end_size(rt: &impl Eprint, word: &str) -> u8 {
     2
 }
 
-/// Ends a program whose word FORMAT names none.
+/// Reports that the word FORMAT names no format, and returns the exit status.
 fn end_format(rt: &impl Eprint, word: &str) -> u8 {
     let word = Shown(word);
     let _ = eprintln!(rt;
@@ -46,7 +46,7 @@ fn end_format(rt: &impl Eprint, word: &str) -> u8 {
     2
 }
 
-/// Ends a program that is asked for both `--check` and `--plans`: a check has no plans.
+/// Reports that `--check` and `--plans` exclude each other, and returns the exit status.
 fn end_plans(rt: &impl Eprint) -> u8 {
     let _ = eprintln!(rt; "error: '--plans' cannot be used with '--check', which runs no query");
     2
@@ -96,7 +96,8 @@ fn print_line(rt: &(impl Print + Eprint), error: &Error) -> u8 {
     status
 }
 
-/// Ends a command line that starts no run. A fault is that of the words as a line shows them, since it may repeat one.
+/// Reports a command line that starts no run, and returns the exit status. An error may repeat a word, so it is made
+/// from the words with their control characters replaced.
 fn end_line(rt: &HostRuntime, words: &[String], error: &Error) -> u8 {
     let status = line_status(error);
     if status != 2 {
@@ -121,7 +122,7 @@ fn words(rt: &HostRuntime) -> io::Result<Vec<String>> {
     Ok(words)
 }
 
-/// Ends a program whose words cannot be had: memory ran out, or a word is not UTF-8.
+/// Reports that the words cannot be read, because memory ran out or a word is not UTF-8, and returns the exit status.
 fn end_words(rt: &impl Eprint, error: &io::Error) -> u8 {
     match error.kind() {
         ErrorKind::OutOfMemory => end_lack(rt),

@@ -13,7 +13,7 @@ use tql_run_forms::csv_form::CsvForm;
 use tql_run_forms::json_form::JsonForm;
 use tql_run_forms::jsonl_form::JsonlForm;
 
-/// The form of the replies. It goes on from one input to the next.
+/// The form of the replies. Its state is carried over from one input to the next.
 #[derive(Clone, Copy)]
 pub(crate) enum Output {
     Plain(PlainForm),
@@ -25,8 +25,8 @@ pub(crate) enum Output {
 }
 
 impl Output {
-    /// Returns the form of a format, which has written nothing. Boxes are laid out in this memory. Where the standard
-    /// error shows refusals at the same terminal, plain tables leave them out.
+    /// Returns the form of a format, before the first reply. Boxes are laid out in this memory. If the standard error
+    /// shows refusals at the same terminal, plain tables leave them out.
     pub(crate) fn new(format: Format, memory: Memory, is_shown: bool) -> Output {
         match format {
             Format::Table if is_shown => Output::Accepted(AcceptedForm),

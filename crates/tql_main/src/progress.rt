@@ -10,7 +10,7 @@ pub(crate) static STANDARD_INPUT: &str = "the standard input";
 /// The name of a text of the command line.
 static TEXT: &str = "-c";
 
-/// The name of an input, where lines on the standard error give it.
+/// The name of an input in a line on the standard error, if it is shown.
 #[derive(Clone, Copy)]
 pub(crate) struct Label<'a>(Option<&'a str>);
 
@@ -70,7 +70,7 @@ impl<'a> Progress<'a> {
         self.statements.set(count);
     }
 
-    /// Returns the label of the input in a line: its name where there are several inputs, and otherwise nothing.
+    /// Returns the label of the input in a line: its name if there are several inputs, and otherwise nothing.
     pub(crate) fn label(&self) -> Label<'a> {
         match self.inputs.get(self.place.get()) {
             Some(input) if self.inputs.len() > 1 => Label(Some(name_of(*input))),

@@ -1,4 +1,4 @@
-//! Prompts at a terminal before each read of a script, and the orders that may be typed there besides statements.
+//! Prompts at a terminal before each read of a script, and the commands that may be typed there besides statements.
 ghost use Rattle.std.specs.Prelude.{◌≡◌};
 ghost use Rattle.tql_spec.specs.Script as script;
 ghost use Rattle.tql_main.specs.Prompting.{begun_by, place_of};
@@ -21,7 +21,7 @@ enum Place {
     InComment,
 }
 
-/// Returns the place after a byte that opens or closes nothing but a text or a quoted name.
+/// Returns the place after a byte outside texts, names and comments that is not a `-`.
 fn opened_by(byte: u8) -> Place
     ensures { place_of result ≡ script.opened_by byte }
 {
@@ -46,8 +46,8 @@ fn place_after(place: Place, byte: u8) -> Place
     }
 }
 
-/// Whether a statement is begun after a byte at a place, where it was begun before or not. A `-` alone may begin a
-/// comment, and counts once another byte follows.
+/// Whether a statement has begun after a byte at a place. A `-` alone may begin a comment, so it counts only once
+/// another byte follows.
 fn is_begun_by(place: Place, is_begun: bool, byte: u8) -> bool
     ensures { result ≡ begun_by (place_of place) is_begun byte }
 {
@@ -60,7 +60,7 @@ fn is_begun_by(place: Place, is_begun: bool, byte: u8) -> bool
     }
 }
 
-/// The script typed so far: the context of the next byte, and whether a statement is begun.
+/// The state of the script typed so far: the context of the next byte, and whether a statement has begun.
 #[derive(Clone, Copy)]
 struct Typed {
     place: Place,
@@ -68,7 +68,7 @@ struct Typed {
 }
 
 impl Typed {
-    /// Whether nothing is begun, neither a statement nor a comment.
+    /// Whether neither a statement nor a comment has begun.
     fn is_empty(self) -> bool {
         !self.is_begun && self.place == Place::Outside
     }
@@ -86,14 +86,14 @@ fn typed_with(before: Typed, bytes: &[u8]) -> Typed {
     typed
 }
 
-/// A word that is no part of a script.
+/// A command to the prompt, which is no part of the script.
 #[derive(Clone, Copy, PartialEq, Eq, Debug)]
 enum Order {
     Help,
     Quit,
 }
 
-/// Returns the order of a line, where it has one alone, with a `;` or without: `help`, `quit` or `exit` in any case.
+/// Returns the command of a line that consists of `help`, `quit` or `exit`, in any case, with or without a `;`.
 fn order_of(line: &[u8]) -> Option<Order> {
     let word = line.trim_ascii();
     let word = word.strip_suffix(b";").unwrap_or(word).trim_ascii_end();
@@ -107,7 +107,7 @@ fn order_of(line: &[u8]) -> Option<Order> {
 }
 
 /// A reader at a terminal. Before each read it writes a prompt to the standard error, for a statement or for more of
-/// one, and at the end of the input a line feed. It takes the orders that are typed where nothing is begun: `help` is
+/// one, and at the end of the input a line feed. It obeys commands that are typed where nothing has begun: `help` is
 /// answered on the standard error, and `quit` and `exit` end the input.
 #[derive(Drop)]
 pub(crate) struct Prompted<'a, E: Eprint, R> {
@@ -117,7 +117,7 @@ pub(crate) struct Prompted<'a, E: Eprint, R> {
 }
 
 impl<'a, E: Eprint, R: Read + Drop> Prompted<'a, E, R> {
-    /// Returns a reader of which nothing was read yet.
+    /// Returns a reader from which nothing was read yet.
     pub(crate) fn new(rt: &'a E, reader: R) -> Prompted<'a, E, R> {
         let typed = Typed {
             place: Place::Outside,
@@ -136,7 +136,7 @@ impl<'a, E: Eprint, R: Read + Drop> Prompted<'a, E, R> {
         let _ = eprint!(self.rt; "{prompt}");
     }
 
-    /// Returns the order in the bytes that were read, where nothing was begun before.
+    /// Returns the command in the bytes that were read, if nothing had begun before.
     fn order_in(&self, bytes: &[u8]) -> Option<Order> {
         if self.typed.is_empty() {
             order_of(bytes)

@@ -1,4 +1,4 @@
-//! What runs an input: an engine, an engine that writes its plans, or a checker.
+//! The runners of an input: an engine, an engine that writes its plans, and a checker.
 ghost use Rattle.std.specs.Prelude.{List};
 ghost use Rattle.tql_spec.specs.Answer as run;
 ghost use Rattle.tql_spec.specs.Machine.{State};
@@ -18,7 +18,7 @@ use tql_run::listener::Listener;
 use tql_run::responder::Responder;
 use tql_run::runner::{Fault, Summary};
 
-/// What runs an input in a form.
+/// Runs an input, with the replies in a form.
 pub(crate) trait Runner: Responder {
     /// Runs an input, as `run_in` of `tql_run` does.
     ///

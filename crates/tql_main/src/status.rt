@@ -7,7 +7,7 @@ use clap::Error;
 use clap::error::ErrorKind;
 use tql_run::runner::{Fault, Summary};
 
-/// The exit status after a run: 0 where no statement was refused, 1 where some statement was, and 3 where the run
+/// Returns the exit status after a run: 0 if no statement was refused, 1 if some statement was, and 3 if the run
 /// stopped because a device failed or memory ran out.
 pub fn exit_status(outcome: &Result<Summary, Fault>) -> u8
     ensures { IsExitStatus outcome.now result }
@@ -19,8 +19,8 @@ pub fn exit_status(outcome: &Result<Summary, Fault>) -> u8
     }
 }
 
-/// The exit status of a command line that starts no run: 0 after help, 2 where the line is wrong, and 3 where memory
-/// ran out.
+/// Returns the exit status of a command line that starts no run: 0 after help or version, 2 if the line is wrong, and 3
+/// if memory ran out.
 pub fn line_status(error: &Error) -> u8
     ensures { result ≡ status_of_line (kind_of error.now) }
 {

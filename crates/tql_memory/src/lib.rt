@@ -1,6 +1,6 @@
-//! The memory of the whole engine: one handle, which passes each call on and counts what it grants: blocks, and bytes.
+//! The memory of the whole engine: one handle, which forwards each call and counts the blocks and bytes that it grants.
 //! It is proved that a block is only granted, resized and freed as the inner allocator says, and how bytes are added
-//! up. No contract can say what a cell holds, so how many blocks and bytes are granted is tested.
+//! up. No contract can describe the contents of a cell, so the numbers of granted blocks and bytes are only tested.
 #![tactic(auto)]
 
 ghost use Rattle.std.specs.Prelude.{◌≡◌, ◌+◌, ◌-◌, ◌*◌, IfOk};
@@ -9,8 +9,8 @@ ghost use Rattle.tql_memory.specs.Bytes.{at_most, no_bound};
 use std::alloc::{AllocError, Allocator, Global};
 use std::cell::Cell;
 
-/// How many bytes are in use once a block of `new` values stands in the place of one of `old`, where each value takes
-/// `each` bytes; None where these are more than `most`.
+/// Returns the number of bytes in use after a block of `new` values replaces one of `old` values, where each value
+/// takes `each` bytes. Returns `None` if the number is more than `most`.
 fn bytes_with(in_use: usize, old: usize, new: usize, each: usize, most: usize) -> Option<usize>
     ensures { result ≡ at_most most (in_use - old * each + new * each) }
 {
@@ -19,21 +19,21 @@ fn bytes_with(in_use: usize, old: usize, new: usize, each: usize, most: usize) -
     if bytes <= most { Some(bytes) } else { None }
 }
 
-/// What may still be granted.
+/// The allocation budget.
 #[derive(Drop)]
 struct Grants {
-    /// How many blocks are granted before one is refused.
+    /// The number of blocks to grant before one is refused.
     blocks: Cell<u64>,
-    /// How many are granted behind a refusal, before the next one.
+    /// The number of blocks to grant after a refusal, before the next one.
     later: Cell<u64>,
-    /// How many bytes the blocks that are in use take.
+    /// The number of bytes that the blocks in use take.
     in_use: Cell<usize>,
-    /// How many bytes they may take.
+    /// The greatest number of bytes that they may take.
     most: usize,
 }
 
 impl Grants {
-    /// Grants of so many blocks, and of so many bytes.
+    /// Creates a budget of `blocks` blocks, and of at most `most` bytes in use.
     fn new(blocks: u64, most: usize) -> Grants
         ensures { result.most ≡ most }
     {
@@ -45,7 +45,7 @@ impl Grants {
         }
     }
 
-    /// Uses up the grant of a block, and tells whether there was one.
+    /// Uses up the grant of a block. Returns whether there was one.
     fn take_block(&self) -> bool {
         match self.blocks.get().checked_sub(1) {
             Some(rest) => {
@@ -59,8 +59,8 @@ impl Grants {
         }
     }
 
-    /// Asks for a block of `new` values of `each` bytes, in the place of one of `old` values. Tells whether it is
-    /// granted, and counts it; bytes that are refused change nothing.
+    /// Requests a block of `new` values of `each` bytes in place of one of `old` values. Returns whether it is granted,
+    /// and counts it if it is. A refusal because of bytes changes nothing.
     fn take(&self, old: usize, new: usize, each: usize) -> bool {
         match bytes_with(self.in_use.get(), old, new, each, self.most) {
             Some(bytes) if self.take_block() => {
@@ -71,7 +71,7 @@ impl Grants {
         }
     }
 
-    /// Counts a block of `new` values of `each` bytes in the place of one of `old` values, which nobody asks for.
+    /// Counts a block of `new` values of `each` bytes in place of one of `old` values, without a request.
     fn count(&self, old: usize, new: usize, each: usize) {
         if let Some(bytes) = bytes_with(self.in_use.get(), old, new, each, usize::MAX) {
             self.in_use.set(bytes);
@@ -79,15 +79,15 @@ impl Grants {
     }
 }
 
-/// An allocator that passes its calls on to another one, and grants only so many blocks, or so many bytes.
+/// An allocator that forwards its calls to another one, and grants only a limited number of blocks or bytes.
 ///
-/// Each block that is asked for uses up one grant: the first block of a collection, each growth of it, and each
-/// shrinking, also where the inner allocator leaves the block in its place. Once no grant is left, every later request
-/// is refused, until `grant` sets new ones: giving a block back returns no grant. A request that the inner allocator
-/// refuses has used its grant up.
+/// Each request for a block uses up one grant: the first block of a collection, and each reallocation to a larger or
+/// smaller size. This is so even if the inner allocator leaves the block in place. Once no grant is left, every later
+/// request is refused until new grants are set, except after `refuse_one_behind`. Freeing a block returns no grant. A
+/// request that the inner allocator refuses has used up its grant.
 ///
-/// The bytes of a block are in use until it is given back; of a block that grows or shrinks, those of its new size are.
-/// A request by which more would be in use than may be is refused, and uses nothing up.
+/// The bytes of a block are in use until it is freed; after a reallocation, those of its new size are in use. A request
+/// that would exceed the limit of bytes in use is refused, and uses up nothing.
 #[derive(Drop)]
 pub struct Counting<B: Allocator> {
     inner: B,
@@ -95,7 +95,7 @@ pub struct Counting<B: Allocator> {
 }
 
 impl<B: Allocator> Counting<B> {
-    /// An allocator over `inner` that grants `granted` blocks; `u64::MAX` is more than any run asks for.
+    /// Creates an allocator over `inner` that grants `granted` blocks. No run requests as many as `u64::MAX`.
     pub fn new(inner: B, granted: u64) -> Counting<B>
         ensures inner { result.inner ≡ inner }
         ensures most { result.grants.most ≡ no_bound }
@@ -106,7 +106,7 @@ impl<B: Allocator> Counting<B> {
         }
     }
 
-    /// An allocator over `inner` that grants blocks as long as no more than `most` bytes are in use.
+    /// Creates an allocator over `inner` that grants blocks as long as no more than `most` bytes are in use.
     pub fn within(inner: B, most: usize) -> Counting<B>
         ensures inner { result.inner ≡ inner }
         ensures most { result.grants.most ≡ most }
@@ -117,29 +117,30 @@ impl<B: Allocator> Counting<B> {
         }
     }
 
-    /// How many blocks it grants before one is refused.
+    /// Returns the number of blocks to grant before one is refused.
     pub fn left(&self) -> u64 {
         self.grants.blocks.get()
     }
 
-    /// How many bytes the blocks take that it granted and that were not given back.
+    /// Returns the number of bytes of the blocks that were granted and not freed.
     pub fn in_use(&self) -> usize {
         self.grants.in_use.get()
     }
 
-    /// Sets how many blocks it grants from now on, whatever was left, and also after a refusal. All later ones are
-    /// refused.
+    /// Sets the number of blocks to grant from now on, whatever was left, and also after a refusal. All later requests
+    /// are refused.
     pub fn grant(&self, granted: u64) {
         self.grants.blocks.set(granted);
         self.grants.later.set(0);
     }
 
-    /// Counts the blocks that it granted since so many were left as granted to no one: so many are left again.
+    /// Restores the number of blocks to grant to `left`, as if none had been granted since then.
     pub fn uncount(&self, left: u64) {
         self.grants.blocks.set(left);
     }
 
-    /// Sets how many blocks it grants from now on; the one behind these is refused, and all later ones are granted.
+    /// Sets the number of blocks to grant from now on. The next request after these is refused, and all later ones are
+    /// granted.
     pub fn refuse_one_behind(&self, granted: u64) {
         self.grants.blocks.set(granted);
         self.grants.later.set(u64::MAX);
@@ -206,10 +207,10 @@ unsafe impl<B: Allocator> Allocator for Counting<B> {
 /// The handle that every type of the engine keeps. It is `Copy`, and an allocator.
 pub type Memory = &'static Counting<Global>;
 
-/// A handle that grants `granted` blocks: a program asks for `u64::MAX`, and a test for few.
+/// Creates a handle that grants `granted` blocks. A program passes `u64::MAX`, and a test passes a small number.
 ///
-/// The allocator behind it takes one block of `alloc` (which is not counted) and is never given back, so a program
-/// makes one. Where `alloc` has no such block, it refuses with `AllocError`.
+/// The allocator of the handle takes one block of `alloc`, which is not counted and never freed, so a program makes
+/// only one. Fails with `AllocError` if `alloc` refuses the block.
 pub fn memory(alloc: Global, granted: u64) -> Result<Memory, AllocError>
     ensures { IfOk result (λ handle. handle.now.grants.most ≡ no_bound) }
 {
@@ -217,8 +218,8 @@ pub fn memory(alloc: Global, granted: u64) -> Result<Memory, AllocError>
     Ok(Box::leak(heap))
 }
 
-/// A handle that grants blocks as long as no more than `most` bytes are in use. Like that of `memory`, it takes one
-/// block of `alloc`, which is not counted and never given back.
+/// Creates a handle that grants blocks as long as no more than `most` bytes are in use. As in `memory`, it takes one
+/// block of `alloc`, which is not counted and never freed.
 pub fn memory_within(alloc: Global, most: usize) -> Result<Memory, AllocError>
     ensures { IfOk result (λ handle. handle.now.grants.most ≡ most) }
 {
@@ -226,8 +227,8 @@ pub fn memory_within(alloc: Global, most: usize) -> Result<Memory, AllocError>
     Ok(Box::leak(heap))
 }
 
-/// One more than a count of what lies in memory. Refused where the count fills its 64 bits: no memory has room for
-/// more.
+/// Returns one more than a count of objects in memory. Fails if the count fills its 64 bits; no memory has room for
+/// that many objects.
 pub fn one_more(count: usize) -> Result<usize, AllocError>
     ensures { IfOk result (λ next. next ≡ count + 1) }
 {

@@ -1,4 +1,4 @@
--- What the getters of clap give, as the definitions of the command line say it.
+-- The results of clap's getters, expressed by the definitions of the command line.
 use Rattle.std.proofs.Common.{ap, refl, subst, sym, true, [], ◌≡◌, ◌∙◌, Option, Result, Ok, Err, List}
 use Rattle.std.specs.Prelude.{IsErrAnd, option_map, unwrap_or, map}
 use Rattle.std.specs.Borrow.{Bor}
@@ -11,23 +11,23 @@ use Rattle.clap.proofs.OnLiterals.{clap_on_literals}
 use Rattle.clap.proofs.WalkLemmas.{raw_values-rows}
 use Rattle.tql_options.specs.CommandLine.{texts, tql_line, values_of}
 
--- the values of an argument are the words that are given of it
+-- the values of an argument are the words that are given for it
 pub given_values : (f : Found) (id : Text) (given : Option (Bor (List (Bor Text))))
     → option_map (λ s. map (λ v. v.now) s.now) given ≡ option_map raw_values (matched_of f id)
     → unwrap_or (option_map (λ s. texts s.now) given) [] ≡ values_of id (rows_of f)
 given_values f id given e = ap (λ (o : Option (List Text)). unwrap_or o []) (e ∙ raw_values-rows f id)
 
--- the command is one of which the matches are known
+-- the matches of the command are known
 pub is_plain : is_simple tql_line ≡ true
 unfolding clap_on_literals tql_line
 is_plain = refl
 
--- and the faults
+-- the faults of the command are known
 pub is_free : is_simple_and_free tql_line ≡ true
 unfolding clap_on_literals tql_line
 is_free = refl
 
--- an error that is passed on is of the same kind
+-- an error that is passed on keeps its kind
 pub passed_on : {T : Type 0} (kinds : Kinds) (e : Error) (r : Result T Error) → HasKind kinds e
     → IsErrAnd r (λ x. x ≡ e) → FailsBy kinds r
 passed_on kinds e (Ok x) has same = absurd same

@@ -29,13 +29,13 @@ behind_by false others m n h e = refl
 behind_by true false m n h e = refl
 behind_by true true m n h e = stays_beyond m n h e
 
--- where one digit more tells no number, no further ones do
+-- if one more digit gives no number, further digits give none
 pub behind_none : (n d : ℕ) (ds : List ℕ) → number_behind n (d ∷ []) ≡ None → number_behind n (d ∷ ds) ≡ None
 behind_none n d ds e =
     behind_by (is_digit d) (list_all is_digit ds) (10 * n + (d - 48)) (number_from (10 * n + (d - 48)) ds)
     (number_from-grows (10 * n + (d - 48)) ds) e
 
--- some digit, by its place
+-- if the digit at an index gives no number, the digits give none
 pub no_number : (n i : ℕ) (ds : List ℕ) → i < length ds → number_behind n (drop i ds) ≡ number_behind 0 ds
     → number_behind n (get_or ds i 0 ∷ []) ≡ None → None ≡ number_in ds
 no_number n i ds h e none =
@@ -43,7 +43,7 @@ no_number n i ds h e none =
     rw filled (sym (behind_none n (get_or ds i 0) (drop (i + 1) ds) none)
     ∙ sym (at_drop_more (number_behind n) ds i 0 h) ∙ e)
 
--- all digits
+-- after the last digit, the number is the one that all digits spell
 pub whole_number : (n i : ℕ) (ds : List ℕ) → n < 2 ^ 64 → length ds ≤ i → 0 < length ds
     → number_behind n (drop i ds) ≡ number_behind 0 ds → Some n ≡ number_in ds
 whole_number n i ds small past some e =

@@ -70,7 +70,7 @@ tql_line = with_rule (with_rule (with_rule (with_rule (with_rule (with_rule (wit
     (with_version (new_app (codes "tql"))) check_rule) bail_rule) interactive_rule) quiet_rule) plans_rule)
     memory_rule) format_rule) command_rule) script_rule
 
--- the flag that a text says
+-- the flag that a text sets: `true` or `false`
 pub record TellsFlag (text : Option Text) (flag : Bool) : Type 0 where
   pub set : text ≡ Some (codes "true") → flag ≡ true
   pub clear : text ≡ Some (codes "false") → flag ≡ false
@@ -99,11 +99,11 @@ pub record IsLineOf (rows : List Row) (line : CommandLine) : Type 0 where
 abbrev pub Reads : List Text → CommandLine → Type 0
 Reads words line = IsLineOf (matches_of tql_line words) line
 
--- what is wrong with the words, or asked for in place of a run; nothing where they are taken
+-- the fault of the words, or the request that replaces a run (help or version); none if they are accepted
 abbrev pub faults_in : List Text → Kinds
 faults_in words = fault_of tql_line words
 
--- how many bytes may be in use by the word SIZE; without one any number, and none where it is no size
+-- the maximal number of bytes in use, by the word SIZE: 2 ^ 64 - 1 without it; none if it is not a size
 abbrev pub bound_of : Option Text → Option ℕ
 bound_of None = Some (2 ^ 64 - 1)
 bound_of (Some word) = bytes_told word
@@ -116,7 +116,7 @@ named_format word = if bytes_eq word (codes "table") then Some format.Table
     else (if bytes_eq word (codes "json") then Some format.Json
     else (if bytes_eq word (codes "jsonl") then Some format.Jsonl else None))))
 
--- the format that the word FORMAT names; without one boxes at a terminal, and else plain tables
+-- the format that the word FORMAT names; without it boxes at a terminal, and plain tables elsewhere
 abbrev pub format_of : Bool → Option Text → Option Format
 format_of is_terminal None = Some (if is_terminal then format.Boxed else format.Table)
 format_of is_terminal (Some word) = named_format word
@@ -125,7 +125,7 @@ format_of is_terminal (Some word) = named_format word
 abbrev pub input_named : Bor Text → Input
 input_named word = if bytes_eq word.now (codes "-") then input.Standard else input.File word
 
--- the standard input is read where that is asked for, or where nothing else is
+-- the standard input, if it is requested or if there is no other input
 abbrev pub standard_input : Bool → List Input → List Input
 standard_input is_asked others = if is_asked || (length others == 0) then input.Standard ∷ [] else []
 

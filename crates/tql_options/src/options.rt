@@ -54,7 +54,7 @@ pub enum Input<'a> {
     Text(&'a str),
 }
 
-/// What the command line asks for.
+/// The parsed command line.
 #[derive(Debug, Drop)]
 pub struct CommandLine<'a> {
     /// Whether the scripts are checked, and not run.
@@ -63,11 +63,11 @@ pub struct CommandLine<'a> {
     pub bail: bool,
     /// Whether the standard input is read after the other inputs.
     pub interactive: bool,
-    /// Whether the standard error says nothing of refused statements.
+    /// Whether no line about refused statements is written to the standard error.
     pub quiet: bool,
-    /// Whether the standard error says how the rows of each query are found.
+    /// Whether the access paths of each query are written to the standard error.
     pub plans: bool,
-    /// The word SIZE: how many bytes may be in use. Without one there is no bound.
+    /// The word SIZE: the maximal number of bytes in use. Without it there is no bound.
     pub memory: Option<&'a str>,
     /// The word FORMAT: how replies are written.
     pub format: Option<&'a str>,
@@ -122,8 +122,8 @@ fn push_texts<'a>(inputs: &mut Vec<Input<'a>>, words: &[&'a str]) -> Result<(), 
 }
 
 impl<'a> CommandLine<'a> {
-    /// Returns how many bytes may be in use: as many as the word SIZE says, and without one any number. None where the
-    /// word is no size.
+    /// Returns the maximal number of bytes in use: the word SIZE, or `usize::MAX` without it. None if the word is not a
+    /// size.
     pub fn most_bytes(&self) -> Option<usize>
         ensures { result ≡ bound_of (option_map (λ s. s.now) self.now.memory) }
     {
@@ -133,8 +133,8 @@ impl<'a> CommandLine<'a> {
         }
     }
 
-    /// Returns the format of the replies: the one that the word FORMAT names; without one boxes where the replies go to
-    /// a terminal, and plain tables elsewhere. None where the word names no format.
+    /// Returns the format of the replies, as the word FORMAT names it. Without that word it is boxes at a terminal, and
+    /// plain tables elsewhere. None if the word names no format.
     pub fn reply_format(&self, is_terminal: bool) -> Option<Format>
         ensures { result ≡ format_of is_terminal (option_map (λ s. s.now) self.now.format) }
     {
@@ -145,9 +145,9 @@ impl<'a> CommandLine<'a> {
         }
     }
 
-    /// Returns the inputs in the order in which they are read: the files that the words SCRIPT name, of which `-` is
-    /// the standard input; each TEXT; and the standard input where that is asked for, or nothing else is named. The
-    /// only error is a refused allocation.
+    /// Returns the inputs in the order in which they are read: the files that the words SCRIPT name, where `-` is the
+    /// standard input; then each TEXT; then the standard input if `--interactive` is set or no other input is named.
+    /// The only error is a refused allocation.
     pub fn inputs(&self, alloc: Global) -> Result<Vec<Input<'a>>, AllocError>
         ensures { IfOk result
             (λ v. v.items ≡ inputs_of self.now.scripts.items self.now.commands.items self.now.interactive) }
@@ -316,8 +316,8 @@ fn line_of<'a>(alloc: Global, matches: &ArgMatches<'a>) -> Result<CommandLine<'a
     })
 }
 
-/// Reads the command line `tql [OPTIONS] [SCRIPT]...`, of which the first word is the program's name. An error is help
-/// or the version that was asked for, a mistake in the words, or want of memory.
+/// Parses the command line `tql [OPTIONS] [SCRIPT]...`, whose first word is the program's name. An error is a request
+/// for help or the version, a mistake in the words, or a refused allocation.
 pub fn command_line<'a>(alloc: Global, words: &'a [String]) -> Result<CommandLine<'a>, Error>
     ensures reads { IfOk result (λ line. Reads (map string_bytes words.entry.now) line) }
     ensures fails { FailsBy (faults_in (map string_bytes words.entry.now)) result }

@@ -1,8 +1,8 @@
-//! Sizes in bytes, as the command line tells them.
+//! Sizes in bytes on the command line.
 ghost use Rattle.std.specs.Prelude.{◌≡◌, ◌∷◌, []};
 ghost use Rattle.tql_options.specs.Sizes.{bytes_told, number_behind, number_in, unit_of};
 
-/// A number with one more digit behind it. None where the byte is no digit, or the number does not lie within 64 bits.
+/// Appends a digit to a number. None if the byte is not a digit, or if the number does not fit into 64 bits.
 fn with_digit(number: usize, byte: u8) -> Option<usize>
     ensures { result ≡ number_behind number (byte ∷ []) }
 {
@@ -14,8 +14,8 @@ fn with_digit(number: usize, byte: u8) -> Option<usize>
         .checked_add(usize::from(byte - b'0'))
 }
 
-/// The number that digits spell, of which there is at least one. None where a byte is no digit, or the number does not
-/// lie within 64 bits.
+/// Returns the number that the digits spell. None if there is no digit, if a byte is not a digit, or if the number does
+/// not fit into 64 bits.
 fn number(digits: &[u8]) -> Option<usize>
     ensures { result ≡ number_in digits.now }
 {
@@ -29,7 +29,7 @@ fn number(digits: &[u8]) -> Option<usize>
     Some(number)
 }
 
-/// How many bytes the unit of a letter has: K, M or G, in either case.
+/// Returns the number of bytes in the unit K, M or G, in either case. None for another letter.
 fn unit(letter: u8) -> Option<usize>
     ensures { result ≡ unit_of letter }
 {
@@ -41,8 +41,8 @@ fn unit(letter: u8) -> Option<usize>
     }
 }
 
-/// How many bytes a word tells: digits, or digits and one of the letters K, M and G, in either case. None where it is
-/// no such word, or the bytes are more than 64 bits tell.
+/// Returns the number of bytes that a word gives: digits, or digits and one of the letters K, M and G, in either case.
+/// None if the word has another form, or if the number does not fit into 64 bits.
 pub fn bytes_of(word: &str) -> Option<usize>
     ensures { result ≡ bytes_told word.now }
 {

@@ -1,4 +1,4 @@
--- A period that may not be there, by its ends.
+-- An optional period, by its ends.
 use Rattle.std.specs.Prelude.{◌≡◌, ◌↔◌, ℤ, ◌≤ℤ◌, ◌<ℤ◌, true, Option, Some, None, IsSome, IfSome, refl}
 use Rattle.std.proofs.Common.{arith, subst}
 use Rattle.std.proofs.lemmas.Int.{ints, clamps}
@@ -6,12 +6,12 @@ use Rattle.tql_spec.specs.Period.{Period, Holds, rises, before, inside, after, i
 use Rattle.tql_period.specs.declared.period.Period as code
 use Rattle.tql_period.specs.Points.{points_of, points_of_piece, LiesIn, HoldsExactly}
 
--- the piece has the ends of x, and is there exactly where x rises
+-- the piece has the ends of x, and it exists exactly if x starts before it ends
 pub record IsPiece (piece : Option code.Period) (x : Period) : Type 0 where
   pub rising : IsSome piece ↔ (x.start <ℤ x.end)
   pub ends : IfSome piece (λ y. points_of y ≡ x)
 
--- what the constructor ensures at these ends
+-- what the constructor returns for these ends
 pub piece_of : (piece : Option code.Period) (s e : ℤ) (x : Period) → (IsSome piece ↔ (s <ℤ e))
     → IfSome piece (λ y. points_of y ≡ record { start = s; end = e }) → s ≡ x.start → e ≡ x.end → IsPiece piece x
 piece_of piece s e x r k p q = record { rising = rw (← p, ← q) r; ends = rw (← p, ← q) k }

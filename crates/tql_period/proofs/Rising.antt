@@ -1,4 +1,4 @@
--- Starts that do not fall, neighbour by neighbour.
+-- Starts that do not decrease, from neighbour to neighbour.
 use Rattle.std.specs.Prelude.{◌≡◌, ◌↔◌, refl, ℕ, zero, suc, ◌+◌, ◌-◌, ◌<◌, Bool, true, false, IsTrue, List, [], ◌∷◌}
 use Rattle.std.specs.Prelude.{length, ◌≤ℤ◌, int_le}
 use Rattle.std.specs.List.{IsAllAdjacentAnswer}
@@ -11,7 +11,7 @@ use Rattle.tql_period.specs.Points.{StartsRise}
 pub record NextRises (parts : List code.Period) : Type 0 where
   pub at : (k : ℕ) (d : code.Period) → k + 1 < length parts → (get_or parts k d).start ≤ℤ (get_or parts (k + 1) d).start
 
--- over n neighbours more
+-- the same over n more neighbours
 along : (parts : List code.Period) → NextRises parts → (i n : ℕ) (d : code.Period) → i + (n + 1) < length parts
     → (get_or parts i d).start ≤ℤ (get_or parts (i + (n + 1)) d).start
 along parts h i zero d l = h.at i d (omega (arith, l))
@@ -32,7 +32,7 @@ rises parts h i j d l m =
 pub next_rises : (parts : List code.Period) → StartsRise parts → NextRises parts
 next_rises parts h = record { at = λ k d l. h k (k + 1) d (omega arith) l }
 
--- what a test of neighbours answers
+-- the result of a test of neighbours
 pub neighbours : (parts : List code.Period) (r : Bool)
     → IsAllAdjacentAnswer (λ (x y : code.Period) b. b ≡ int_le x.start y.start) parts r → IsTrue r ↔ StartsRise parts
 neighbours parts true h =

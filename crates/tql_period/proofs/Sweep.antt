@@ -10,9 +10,9 @@ use Rattle.tql_spec.specs.Period.{Period, Holds, Covers}
 use Rattle.tql_period.specs.declared.period.Period as code
 use Rattle.tql_period.specs.Points.{points_of, StartsRise}
 
--- ---- one part more
+-- ---- one more part
 
--- some part holds the point
+-- some part contains the point
 abbrev HeldIn : List Period → ℤ → Type 0
 HeldIn parts p = (part : Period) × Contains parts part × Holds part p
 
@@ -26,7 +26,7 @@ by_either : (a : Period) (as' : List Period) (p : ℤ) → HeldIn (a ∷ as') p 
 by_either a as' p (x, (zero, l, e), h) = inl (subst (λ y. Holds y p) (sym e) h)
 by_either a as' p (x, (suc k, l, e), h) = inr (x, (k, omega arith, e), h)
 
--- what is to be covered from the reach on
+-- the part of the whole from the reach on
 abbrev rest_from : ℤ → Period → Period
 rest_from reach whole = record { start = reach; end = whole.end }
 
@@ -43,14 +43,14 @@ past_first a as' reach whole s = (
 nobody : (p : ℤ) → HeldIn [] p → ⊥
 nobody p (x, m, h) = omega (arith, m.1)
 
--- no part: nothing may be left
+-- without parts, the whole must end by the reach
 past_last : (reach : ℤ) (whole : Period) → Covers [] (rest_from reach whole) ↔ (whole.end ≤ℤ reach)
 past_last reach whole = (
   λ h. by_lt_z reach whole.end (λ l. absurd (nobody reach (h reach (omega (arith, ints), l)))) (λ l. l),
   λ h p k. absurd (omega (arith, ints, h, k.0, k.1)),
 )
 
--- each part begins behind the reach: nothing may be left
+-- if each part starts after the reach, the whole must end by the reach
 past_gap : (parts : List Period) (reach : ℤ) (whole : Period) → ((x : Period) → Contains parts x → reach <ℤ x.start)
     → Covers parts (rest_from reach whole) ↔ (whole.end ≤ℤ reach)
 past_gap parts reach whole f = (
@@ -65,11 +65,11 @@ past_gap parts reach whole f = (
 through : {A B C : Type 0} → A ↔ B → B ↔ C → A ↔ C
 through e f = (λ a. f.0 (e.0 a), λ c. e.1 (f.1 c))
 
--- the parts up to i are swept: the whole is covered where the others cover it from the reach on
+-- the first i parts are swept: the whole is covered exactly if the others cover it from the reach on
 pub record Swept (parts : List code.Period) (whole : Period) (i : ℕ) (reach : ℤ) : Type 0 where
   pub is : Covers (map points_of parts) whole ↔ Covers (map points_of (drop i parts)) (rest_from reach whole)
 
--- what is left of the parts, at the next part
+-- the remaining parts, at the next part
 opened : (parts : List code.Period) (i : ℕ) (x : code.Period) → i < length parts → x ≡ get_or parts i x
     → map points_of (drop i parts) ≡ points_of x ∷ map points_of (drop (suc i) parts)
 opened parts i x l e =
@@ -95,7 +95,7 @@ swept_all parts whole i reach h k l =
     let e : i ≡ length parts = omega (arith, k, l) in
     through (subst P (ap (λ n. drop n parts) e ∙ drop-length parts) h.is) (past_last reach whole)
 
--- a list whose members start behind the reach
+-- each member of a list starts after the reach
 far : (xs : List code.Period) (reach : ℤ) (d : code.Period)
     → ((k : ℕ) → k < length xs → reach <ℤ (get_or xs k d).start) → (y : Period) → Contains (map points_of xs) y
     → reach <ℤ y.start
@@ -103,7 +103,7 @@ far [] reach d f y (k, m, e) = absurd (omega (arith, m))
 far (x ∷ xs) reach d f y (zero, m, e) = subst (λ z. reach <ℤ z.start) e (f zero (omega arith))
 far (x ∷ xs) reach d f y (suc k, m, e) = far xs reach d (λ j l. f (suc j) (omega (arith, l))) y (k, omega (arith, m), e)
 
--- where one part starts behind the reach, the later ones do
+-- if one part starts after the reach, the later ones do
 later : (parts : List code.Period) (i : ℕ) (reach : ℤ) (x : code.Period) → StartsRise parts → x ≡ get_or parts i x
     → reach <ℤ x.start → (k : ℕ) → i + k < length parts → reach <ℤ (get_or parts (i + k) x).start
 later parts i reach x rise e s zero l = rw (add-zero, ← e) s
@@ -127,7 +127,7 @@ pub swept_gap : (parts : List code.Period) (whole : Period) (i : ℕ) (reach : �
 swept_gap parts whole i reach x h rise l e s =
     through h.is (past_gap (map points_of (drop i parts)) reach whole (behind parts i reach x rise l e s))
 
--- the sweep's answer
+-- the result of the sweep
 pub answers : (parts : List code.Period) (whole : Period) (e reach : ℤ) → e ≡ whole.end
     → Covers (map points_of parts) whole ↔ (whole.end ≤ℤ reach)
     → IsTrue (int_le e reach) ↔ Covers (map points_of parts) whole

@@ -1,4 +1,4 @@
-//! Coverage: whether parts, by rising starts, leave no point of a whole out.
+//! Coverage: whether parts, sorted by start, include each point of a whole.
 ghost use Rattle.std.specs.Prelude.{◌↔◌, IsTrue, map};
 ghost use Rattle.tql_spec.specs.Period.{Covers};
 ghost use Rattle.tql_period.specs.Points.{points_of, StartsRise};
@@ -12,8 +12,7 @@ pub fn starts_rise(parts: &[Period]) -> bool
     parts.is_sorted_by(|part, next| part.start <= next.start)
 }
 
-/// Whether each point of the whole lies in some part. The parts are given by rising starts; they may
-/// overlap and repeat.
+/// Whether each point of the whole is in some part. The parts are sorted by start; they may overlap and repeat.
 pub fn covers(parts: &[Period], whole: Period) -> bool
     requires { StartsRise parts.now }
     ensures { IsTrue result ↔ Covers (map points_of parts.now) (points_of whole) }

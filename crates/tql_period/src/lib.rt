@@ -1,4 +1,4 @@
-//! Periods, the predicates on them, the parts that a portion cuts them into, and coverage.
+//! Periods, the predicates on them, the parts into which a portion cuts them, and coverage.
 #![tactic(auto)]
 
 pub mod coverage;

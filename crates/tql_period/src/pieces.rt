@@ -6,19 +6,19 @@ ghost use Rattle.tql_period.specs.Points.{points_of, points_of_piece, HoldsExact
 
 use crate::period::Period;
 
-/// The parts into which a portion cuts a period; a part that would hold no point is not there.
+/// The parts into which a portion cuts a period. A part without points is `None`.
 #[derive(Clone, Copy, PartialEq, Eq, Debug)]
 pub struct Pieces {
     /// The points before the portion.
     pub before: Option<Period>,
     /// The points in the portion.
     pub inside: Option<Period>,
-    /// The points from the portion's end on.
+    /// The points from the end of the portion on.
     pub after: Option<Period>,
 }
 
-/// Cuts a period into its points before the portion, those in it, and those from its end on.
-/// What FOR PORTION OF does to a row's period, ISO/IEC 9075-2:2011, 14.9 and 14.14.
+/// Cuts a period into its points before the portion, those in it, and those from its end on. FOR PORTION OF does this
+/// to a row's period, ISO/IEC 9075-2:2011, 14.9 and 14.14.
 pub fn split(period: Period, portion: Period) -> Pieces
     ensures before { HoldsExactly result.before
         (λ p. Holds (points_of period) p × (p <ℤ portion.start)) }
@@ -27,7 +27,7 @@ pub fn split(period: Period, portion: Period) -> Pieces
     ensures after { HoldsExactly result.after
         (λ p. Holds (points_of period) p × (portion.end ≤ℤ p)) }
 
-    // The same by their ends.
+    // The same, by the ends of the parts.
     ensures before_ends { points_of_piece result.before
         ≡ if_any (part_before portion.start (points_of period)) }
     ensures inside_ends { points_of_piece result.inside

@@ -28,13 +28,13 @@ pub enum Relation {
     ImmediatelySucceeds,
 }
 
-/// A predicate between two periods, each given by its start and its end. The ends need not rise and
-/// may be NULL: the comparisons of the ends are then taken in three-valued logic (this project's choice).
+/// Returns the truth of a predicate on two periods, each given by its start and its end. The start need not be before
+/// the end, and both may be NULL: they are compared in three-valued logic (this project's choice).
 pub fn predicate(which: Relation, x: (View<'_>, View<'_>), y: (View<'_>, View<'_>)) -> Truth
     ensures formulas { plain_truth result
         ≡ predicate_of (plain_relation which) (data_of x.entry) (data_of y.entry) }
 
-    // What it says of periods that rise and have no NULL.
+    // What it says about periods that start before they end and have no NULL.
     ensures days { SaysOfPoints Day (plain_relation which)
         (data_of x.entry) (data_of y.entry) (plain_truth result) }
     ensures moments { SaysOfPoints Moment (plain_relation which)
@@ -44,7 +44,7 @@ pub fn predicate(which: Relation, x: (View<'_>, View<'_>), y: (View<'_>, View<'_
     by_ends(which, x, y)
 }
 
-// The predicate by the comparisons of its ends.
+// Returns the truth of the predicate, by comparisons of the ends.
 fn by_ends(which: Relation, x: (View<'_>, View<'_>), y: (View<'_>, View<'_>)) -> Truth
     ensures { plain_truth result
         ≡ predicate_of (plain_relation which) (data_of x.entry) (data_of y.entry) }
@@ -76,12 +76,12 @@ fn by_ends(which: Relation, x: (View<'_>, View<'_>), y: (View<'_>, View<'_>)) ->
     }
 }
 
-/// CONTAINS with a point: the period is given by its start and its end. As in `predicate`, the ends
-/// need not rise, and they and the point may be NULL (this project's choice).
+/// Returns the truth of CONTAINS with a point, for a period given by its start and its end. As in `predicate`, the
+/// start need not be before the end, and the ends and the point may be NULL (this project's choice).
 pub fn contains_point(x: (View<'_>, View<'_>), point: View<'_>) -> Truth
     ensures formula { plain_truth result ≡ point_formula (data_of x.entry) (datum_of_view point.entry) }
 
-    // What it says of a period and a point without NULL.
+    // What it says about a period and a point without NULL.
     ensures days { SaysOfPoint Day (data_of x.entry) (datum_of_view point.entry) (plain_truth result) }
     ensures moments { SaysOfPoint Moment (data_of x.entry) (datum_of_view point.entry) (plain_truth result) }
 {

@@ -19,7 +19,7 @@ use Rattle.tql_plan_access.specs.Access.{are_given, value_or_null}
 
 -- ---- how wide a row is
 
--- as many cells as are not generated, with those that are
+-- a row has its stored cells and its generated cells
 long_so : (s : Option System) (cells : Row) (start end : ℤ)
     → length (with_generated s cells start end) ≡ length cells + length (generated_columns s)
 long_so None cells start end = omega arith
@@ -42,7 +42,7 @@ stored_long d r cells start end h =
 
 -- ---- values in columns
 
--- a value that is given, and the others
+-- if the first value and the others are given together, each is given
 given_parts : (o : Option Datum) (os : Option (List Datum)) → is_some (with_front o os) ≡ true
     → (is_some o ≡ true) × (is_some os ≡ true)
 given_parts None os h = absurd (cc)
@@ -57,7 +57,7 @@ both_are : (a b : Bool) → a ≡ true → b ≡ true → a && b ≡ true
 both_are true b h k = k
 both_are false b h k = absurd (cc)
 
--- a row that meets conjuncts has the values that they give to columns where the columns are stored
+-- a row that meets conjuncts has the values that they give to columns, at the numbers where the columns are stored
 found_at : ValuesAreMet → (conds : List Cond) (row cells : Row) → meets conds row ≡ true → (columns stored : List ℕ)
     → are_given conds columns ≡ true → map (cell row) columns ≡ map (cell cells) stored
     → is_at stored (map (value_or_null conds) columns) cells ≡ true
@@ -73,7 +73,7 @@ found_at law conds row cells m (c ∷ cs) (k ∷ ks) g e =
     (law conds row m c (value_or_null conds c) (is_given (value_in c conds) p.0)))
     (found_at law conds row cells m cs ks p.1 more)
 
--- so has a row of a table, of what it stores
+-- the same for the stored cells of a row of a table
 pub given_found : ValuesAreMet → (d : TableDef) → IsDefinition d → (conds : List Cond) (columns stored : List ℕ)
     → are_given conds columns ≡ true → AreStoredAt d columns stored → (cells : Row) (start end : ℤ)
     → length (with_generated d.system cells start end) ≡ length d.columns

@@ -1,4 +1,4 @@
--- Rows that are found by what is said of their application period.
+-- Rows that are found by their application period.
 use Rattle.std.proofs.Common.{◌≡◌, ◌∙◌, refl, ap, subst, ℕ, true, List, length}
 use Rattle.std.specs.Prelude.{ℤ, Option, Some, None, option_map}
 use Rattle.tql_spec.specs.Datum.{Row}
@@ -15,7 +15,7 @@ use Rattle.tql_plan_access.specs.Access.{IsRow, Lasts, is_within, period_columns
 use Rattle.tql_plan_access.specs.Said.{IsPortionBy, IsSaidBy}
 use Rattle.tql_plan_access.proofs.ByKey.{stored_long}
 
--- a portion is sought where the period is stored
+-- the lookup of a portion uses the numbers at which the period is stored
 pub portion_said : (d : TableDef) (portion : Period) (b : Option Application) (stored : ℕ × ℕ)
     → IsPeriodStoredAt d b (Some stored) → IsPortionBy d portion b (Some (Sharing stored.0 stored.1 portion))
 portion_said d portion None stored h = absurd h
@@ -25,7 +25,7 @@ module _ (d : TableDef) (right : IsDefinition d) where
   abbrev completed : Row → ℤ → ℤ → Row
   completed cells from to = with_generated d.system cells from to
 
-  -- a row's period is stored where it is said to be
+  -- the period of a row equals the period at the stored numbers
   same_period : (a : Application) (stored : ℕ × ℕ) → IsStoredAt d a.start stored.0 → IsStoredAt d a.end stored.1
       → (cells : Row) (from to : ℤ) → length (completed cells from to) ≡ length d.columns
       → period_between (completed cells from to) a.start a.end ≡ period_between cells stored.0 stored.1
@@ -35,7 +35,7 @@ module _ (d : TableDef) (right : IsDefinition d) where
 
   -- ---- by a portion
 
-  -- a row that shares a point with it is looked at
+  -- a row that shares a point with the portion is looked at
   pub portion_found : (portion : Period) (b : Option Application) → d.application ≡ b → (o : Option Sought)
       → IsPortionBy d portion b o → (cells : Row) (from to : ℤ)
       → length (completed cells from to) ≡ length d.columns
@@ -70,7 +70,7 @@ module _ (d : TableDef) (right : IsDefinition d) where
         (stretches conds row m a.start a.end x (lasting a has row r).points (lasting a has row r).rising f)
     found a has stored start end None None e f cells from to r m = refl
 
-    -- a row that meets them is looked at
+    -- a row that meets the conjuncts is looked at
     pub said_found : (b : Option Application) → d.application ≡ b → (o : Option Sought) → IsSaidBy d conds b o
         → (cells : Row) (from to : ℤ) → IsRow (period_columns d) (length d.columns) (completed cells from to)
         → meets conds (completed cells from to) ≡ true → is_looked_at o cells ≡ true

@@ -20,9 +20,9 @@ use Rattle.tql_catalog.specs.Sought.{reference_columns, sought_columns}
 use Rattle.tql_plan_laws.specs.Constants.{tuple_in, value_in}
 use Rattle.tql_plan_access.specs.Access.{are_given, are_marked, first_given, given_marks}
 
--- ---- what all lists are
+-- ---- all lists
 
--- the lists of parts that pass a test, before lists that do
+-- lists that pass a test, appended to lists that pass it, all pass it
 all_before : {A : Type 0} (p : List ℕ → Bool) (columns : A → List ℕ) (xs : List A) (ys : List (List ℕ))
     → list_all (λ x. p (columns x)) xs ≡ true → list_all p ys ≡ true → list_all p (map columns xs ++ ys) ≡ true
 all_before p columns [] ys h k = k
@@ -37,13 +37,13 @@ all_listed p columns (x ∷ xs) h =
     let parts = and_parts (p (columns x)) (list_all (λ y. p (columns y)) xs) h in
     and_from (p (columns x)) (list_all p (map columns xs)) parts.0 (all_listed p columns xs parts.1)
 
--- those by which rows of a table are sought are of columns of the table, none generated
+-- the lists for lookups in a table name columns of the table, none of them generated
 all_assignable : (d : TableDef) → IsDefinition d → list_all (are_assignable d) (sought_columns d) ≡ true
 all_assignable d right =
     all_before (are_assignable d) (λ (k : Key). k.columns) d.keys (reference_columns d) right.keys
     (all_listed (are_assignable d) (λ (f : Reference). f.columns) d.references right.references)
 
--- what is made of a value is there where the value is
+-- mapping an option keeps whether it has a value
 pub is_there : {A B : Type 0} (f : A → B) (o : Option A) → is_some o ≡ is_some (option_map f o)
 is_there f None = refl
 is_there f (Some x) = refl
@@ -51,7 +51,7 @@ is_there f (Some x) = refl
 -- ---- the first that passes a test
 
 module _ (test : List ℕ → Bool) where
-  -- where the list at a place does, it is the first from there on
+  -- a list at an index that passes the test is the first from there on
   pub first_here : {A B : Type 0} (f : B → A) (columns : A → List ℕ) (xs : List B) (i : ℕ) (x : B)
       → i < length xs → x ≡ get_or xs i x → test (columns (f x)) ≡ true
       → find test (map columns (map f (drop i xs))) ≡ Some (columns (f x))
@@ -61,11 +61,11 @@ module _ (test : List ℕ → Bool) where
       ∙ ap (λ y. cond (test (columns (f y))) (Some (columns (f y))) rest) (sym e)
       ∙ ap (λ b. cond b (Some (columns (f x))) rest) h
 
-  -- of two lists of them
+  -- the first in two appended lists
   pub first_of_both : (xs ys : List (List ℕ)) → find test (xs ++ ys) ≡ option_or (find test xs) (find test ys)
   first_of_both xs ys = find-append test xs ys
 
-  -- there is one where some list does
+  -- there is a first list exactly if some list passes
   pub any_given : (xs : List (List ℕ)) → is_some (find test xs) ≡ list_any test xs
   any_given [] = refl
   any_given (x ∷ xs) = either (test x) (any_given xs)
@@ -75,7 +75,7 @@ module _ (test : List ℕ → Bool) where
       either true h = refl
       either false h = h
 
-  -- it passes, and so it does another test that all lists pass
+  -- the first list passes the test, and any other test that all lists pass
   first_is : (p : List ℕ → Bool) (xs : List (List ℕ)) (columns : List ℕ) → list_all p xs ≡ true
       → find test xs ≡ Some columns → (p columns ≡ true) × (test columns ≡ true)
   first_is p [] columns h e = absurd (cc)
@@ -93,7 +93,7 @@ module _ (test : List ℕ → Bool) where
           (subst (λ is. p is ≡ true) same here, subst (λ is. test is ≡ true) same g)
       either false g here later e = later e
 
-  -- another test of lists of which each passes a third finds the same, where it answers the same for these
+  -- two tests find the same list if they agree on every list that passes a third test, and all lists pass that
   pub found_same : (other p : List ℕ → Bool) (xs : List (List ℕ))
       → ((is : List ℕ) → p is ≡ true → test is ≡ other is) → list_all p xs ≡ true → find test xs ≡ find other xs
   found_same other p [] same h = refl
@@ -102,7 +102,7 @@ module _ (test : List ℕ → Bool) where
       (λ i. cond (same x parts.0 i) (Some x) (found_same other p xs same parts.1 i))
 
 module _ (conds : List Cond) where
-  -- ---- columns that are marked
+  -- ---- marked columns
 
   marked_one : (n i : ℕ) → nat_lt i n ≡ true
       → slice_index_or (given_marks conds n) i false ≡ is_some (value_in i conds)
@@ -115,7 +115,7 @@ module _ (conds : List Cond) where
   with_given (Some v) None = refl
   with_given (Some v) (Some vs) = refl
 
-  -- columns of the table are marked where they are given values
+  -- columns of the table are all marked exactly if they are all given values
   marked_given : (n : ℕ) (columns : List ℕ) → list_all (λ i. nat_lt i n) columns ≡ true
       → are_marked (given_marks conds n) columns ≡ are_given conds columns
   marked_given n [] h = refl
@@ -124,7 +124,7 @@ module _ (conds : List Cond) where
       (λ k. marked_one n i parts.0 k && marked_given n is parts.1 k)
       ∙ sym (with_given (value_in i conds) (tuple_in conds is))
 
-  -- columns of the table are among as many as it has
+  -- assignable columns have numbers below the number of columns
   within : (d : TableDef) (columns : List ℕ) → list_all (λ i. nat_lt i (length d.columns) && not (is_generated d i))
       columns ≡ true → list_all (λ i. nat_lt i (length d.columns)) columns ≡ true
   within d [] h = refl
@@ -134,7 +134,7 @@ module _ (conds : List Cond) where
       and_from (nat_lt i (length d.columns)) (list_all (λ k. nat_lt k (length d.columns)) is)
       (and_parts (nat_lt i (length d.columns)) (not (is_generated d i)) parts.0).0 (within d is parts.1)
 
-  -- so the first list of a table's of which all are marked is the first that is given values
+  -- the first list of a table whose columns are all marked is the first whose columns are all given values
   pub marked_first : (d : TableDef) → IsDefinition d
       → find (are_marked (given_marks conds (length d.columns))) (sought_columns d)
       ≡ first_given conds (sought_columns d)
@@ -147,9 +147,9 @@ module _ (conds : List Cond) where
       h).0))
       (all_assignable d right)
 
-  -- ---- the first that is given values
+  -- ---- the first list that is given values
 
-  -- of a table's lists the first is of such columns, and is given values
+  -- the columns of the first list that is given values are assignable
   pub assignable_first : (d : TableDef) → IsDefinition d → (columns : List ℕ)
       → first_given conds (sought_columns d) ≡ Some columns → are_assignable d columns ≡ true
   assignable_first d right columns e =

@@ -17,7 +17,7 @@ use Rattle.tql_plan_access.specs.Access.{IsRow, LookingIsEnough, SafePartDecides
 abbrev pub is_seen : Option Sought → Version → Bool
 is_seen o v = is_looked_at o v.row.cells
 
--- a row that fails gives nothing
+-- a row that fails adds nothing to the result
 dropped : (x : Row) (rest : Option (List Row)) → kept_if x (Some false) rest ≡ rest
 dropped x None = refl
 dropped x (Some xs) = refl
@@ -32,7 +32,7 @@ module _ (law : SafePartDecides) (system : Option System) (period : Option (ℕ 
       (λ m. absurd (let k : true ≡ false = sym (serves.all v.row.cells v.row.start v.end row m) ∙ unseen in cc))
       (λ m. law conds (completed system v) m)
 
-  -- of one version more: it is looked at, or it fails
+  -- the step for one more version: it is looked at, or it fails
   one_more : (v : Version) (vs : List Version) (seen : Bool)
       → (seen ≡ false → passes [] (completed system v) conds ≡ Some false)
       → keep conds (map (completed system) (filter (is_seen o) vs)) ≡ keep conds (map (completed system) vs)
@@ -56,7 +56,7 @@ module _ (law : SafePartDecides) (system : Option System) (period : Option (ℕ 
 pub enough : SafePartDecides → LookingIsEnough
 enough law system period width conds o serves vs h = seen_same law system period width conds o serves vs h
 
--- where all rows are looked at, nothing is asked of the conjuncts
+-- a scan of all rows serves any conjuncts
 pub whole_serves : (system : Option System) (period : Option (ℕ × ℕ)) (width : ℕ) (conds : List Cond)
     → Serves system period width conds None
 whole_serves system period width conds = record { all = λ cells start end w m. refl }

@@ -13,14 +13,14 @@ use Rattle.tql_plan_access.specs.Access.{SafePartDecides, safe_part}
 -- ---- one conjunct after another
 
 module _ {A : Type 0} (f : A → Cond) (xs : List A) (i : ℕ) (d : A) (l : i < length xs) where
-  -- the one at a place, before what is left
+  -- the safe part from an index on: the conjunct at the index and the safe part of the rest, or nothing
   front : safe_part (map f (drop i xs))
       ≡ cond (is_safe (f (get_or xs i d))) (f (get_or xs i d) ∷ safe_part (map f (drop (i + 1) xs))) []
   front =
       ap (λ ys. safe_part (map f ys)) (drop_more xs i d l)
       ∙ take_while-cons is_safe (f (get_or xs i d)) (map f (drop (i + 1) xs))
 
-  -- those before it, and the safe part from there on, where it is safe
+  -- a safe conjunct at an index moves from the safe part of the rest to the conjuncts before it
   pub one_more : is_safe (f (get_or xs i d)) ≡ true
       → map f (take (i + 1) xs) ++ safe_part (map f (drop (i + 1) xs))
       ≡ map f (take i xs) ++ safe_part (map f (drop i xs))
@@ -30,7 +30,7 @@ module _ {A : Type 0} (f : A → Cond) (xs : List A) (i : ℕ) (d : A) (l : i < 
       ap (λ ys. ys ++ more) (map_more f xs i d l) ∙ append_assoc (map f (take i xs)) (y ∷ []) more
       ∙ ap (λ ys. map f (take i xs) ++ ys) (sym (front ∙ ap (λ b. cond b (y ∷ more) []) h))
 
-  -- and where it is not
+  -- an unsafe conjunct at an index ends the safe part
   pub no_more : is_safe (f (get_or xs i d)) ≡ false
       → map f (take i xs) ++ safe_part (map f (drop i xs)) ≡ map f (take i xs)
   no_more h =
@@ -41,7 +41,7 @@ module _ {A : Type 0} (f : A → Cond) (xs : List A) (i : ℕ) (d : A) (l : i < 
 
 -- ---- a row that does not meet it
 
--- after a conjunct with this truth
+-- evaluation after a conjunct with this truth value
 later : (t : Truth) (rest : Option Bool) (m : Bool) → (m ≡ false → rest ≡ Some false) → is_true t && m ≡ false
     → go_on t rest ≡ Some false
 later True rest m f h = f h

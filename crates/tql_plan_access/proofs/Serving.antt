@@ -1,4 +1,4 @@
--- What is sought serves: no other row passes the conjuncts, or is touched by a change.
+-- The chosen lookup serves: no row outside it passes the conjuncts or is touched by a change.
 use Rattle.std.proofs.Common.{◌≡◌, ◌∙◌, refl, sym, subst, ap, ℕ, ◌^◌, ◌-◌, Bool, true, false, List, map, length}
 use Rattle.std.proofs.Common.{cond, arith}
 use Rattle.std.specs.Prelude.{IfOk, Result, Ok, Err, ℤ, pos, ◌+ℤ◌, int_le, int_lt, ◌&&◌, if◌then◌else◌}
@@ -24,13 +24,13 @@ use Rattle.tql_plan_access.proofs.ByKey.{given_found}
 use Rattle.tql_plan_access.proofs.ByPeriod.{portion_found, said_found}
 use Rattle.tql_plan_access.proofs.GivenLists.{given_first}
 
--- of a result, what follows from what it is
+-- a property of a result's value implies a weaker property
 pub ok_then : {A E : Type 0} {P Q : A → Type 0} (result : Result A E) → ((x : A) → P x → Q x) → IfOk result P
     → IfOk result Q
 ok_then (Ok x) f h = f x h
 ok_then (Err e) f h = h
 
--- and from two facts
+-- two properties of a result's value imply a third
 pub ok_both : {A E : Type 0} {P Q R : A → Type 0} (result : Result A E) → ((x : A) → P x → Q x → R x) → IfOk result P
     → IfOk result Q → IfOk result R
 ok_both (Ok x) f h k = f x h k
@@ -38,7 +38,7 @@ ok_both (Err e) f h k = h
 
 -- ---- a key and a period
 
--- a period that holds a point shares it with the period of that point alone
+-- a period that contains a point shares it with the period of that point alone
 point_shared : (a b p : ℤ) → int_le a p && int_lt p b ≡ true
     → int_lt (int_max a p) (int_min b (p +ℤ pos 1)) ≡ true
 point_shared a b p h = let t = both (int_le a p) (int_lt p b) h in shared a b p t.0 t.1
@@ -47,7 +47,7 @@ point_shared a b p h = let t = both (int_le a p) (int_lt p b) h in shared a b p 
         → int_lt (int_max a p) (int_min b (p +ℤ pos 1)) ≡ true
     shared a b p l m = grind (arith, ints, clamps)
 
--- a row with these values, that is sought for its period, is sought by both
+-- a row with these values that a lookup by period finds is found by the narrowed lookup
 pub narrowed_found : (columns : List ℕ) (tuple : List Datum) (said : Option Sought) (cells : Row)
     → is_at columns tuple cells ≡ true → is_looked_at said cells ≡ true
     → is_sought (narrowed columns tuple said) cells ≡ true
@@ -69,10 +69,10 @@ narrowed_found columns tuple (Some (Holding start end p)) cells at seen = either
         (point_shared x.start x.end p seen)
     either false = at
 
--- ---- what is said of the period, and by which key
+-- ---- lookups by a key and by a period
 
 module _ (d : TableDef) (conds : List Cond) where
-  -- what is so by one predicate of what is said is so by a weaker
+  -- a lookup that meets a predicate of the period's lookup meets a weaker one
   pub by_weaker : (first : Option (List ℕ)) (P Q : Option Sought → Type 0) → ((o : Option Sought) → P o → Q o)
       → (o : Option Sought) → IsSoughtBy d conds first P o → IsSoughtBy d conds first Q o
   by_weaker None P Q h o s = h o s
@@ -84,7 +84,7 @@ module _ (d : TableDef) (conds : List Cond) where
     is = s.is;
   }
 
-  -- rows that meet the conjuncts, and are looked at for what is said, are looked at
+  -- rows that meet the conjuncts and that the period's lookup finds are looked at
   sought_found : ValuesAreMet → IsDefinition d → (first : Option (List ℕ))
       → first_given conds (sought_columns d) ≡ first
       → (IsSaid : Option Sought → Type 0) (o : Option Sought) → IsSoughtBy d conds first IsSaid o
@@ -117,7 +117,7 @@ module _ (d : TableDef) (conds : List Cond) where
             said_found d right points stretches conds d.application refl said by cells start end r m
         seen false said by = ap (λ q. is_looked_at q cells) by
 
-    -- and so are those of a portion that do
+    -- rows of a portion that meet the conjuncts are looked at
     portion_met : IsDefinition d → (portion : Period) (o : Option Sought)
         → IsSoughtBy d conds (first_given conds (sought_columns d)) (IsPortionBy d portion d.application) o
         → (cells : Row) (start end : ℤ)
@@ -134,7 +134,7 @@ module _ (d : TableDef) (conds : List Cond) where
 
 -- ---- for the safe part
 
--- what is sought by conjuncts that are the safe part of others is sought for those
+-- the lookup for the safe part of conjuncts is the lookup for the conjuncts
 pub sought_for : (d : TableDef) (conds : List Cond) (is_current : Bool) (part : List Cond)
     → part ≡ safe_part conds → (said : Option Sought) → IsSaidBy d part (period_given d is_current) said
     → (o : Option Sought) → IsSoughtBy d part (first_given part (sought_columns d)) (λ q. q ≡ said) o
@@ -156,7 +156,7 @@ module _ (values : ValuesAreMet) (points : PointsAreMet) (stretches : StretchesA
       → ServesChange d (Some portion) conds o
   serves_portion portion o s = portion_met d (safe_part conds) values points stretches right portion o s
 
--- a change of no portion touches rows that meet WHERE
+-- a change without a portion touches only rows that meet WHERE, so a lookup that serves the table serves it
 pub serves_plain : (d : TableDef) (conds : List Cond) (o : Option Sought) → ServesTable d conds o
     → ServesChange d None conds o
 serves_plain d conds o serves cells start end r m = serves.all cells start end r m

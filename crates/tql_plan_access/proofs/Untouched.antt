@@ -1,5 +1,5 @@
--- A change leaves the rows that it does not look at, so what it makes of those that it looks at is what it makes of
--- all: the same new rows in the place of as many, and the same fault.
+-- A change leaves the rows outside its access path unchanged. So its outcome on the rows of the path is its outcome on
+-- all rows: the same new rows, the same number of touched rows and the same fault.
 use Rattle.std.proofs.Common.{◌≡◌, refl, ap, sym, subst, ◌∙◌, suc, Bool, true, false, cond, List, [], ◌∷◌, ◌++◌}
 use Rattle.std.proofs.Common.{filter, flat_map}
 use Rattle.std.specs.Prelude.{ℤ, not, ◌&&◌, Option, Some, None, if◌then◌else◌}
@@ -28,11 +28,11 @@ pub record IsPassedOver (d : TableDef) (o : Option Sought) (r : Stamped) : Type 
   pub row : IsShown d r
   pub unseen : is_looked_at o r.cells ≡ false
 
--- of these rows those that are not looked at
+-- the rows that are not looked at
 abbrev pub unseen_of : Option Sought → List Stamped → List Stamped
 unseen_of o rows = filter (λ r. not (is_looked_at o r.cells)) rows
 
--- of rows of the table these are passed over
+-- the rows of a table that are not looked at are passed over
 pub passed_over : (d : TableDef) (o : Option Sought) (rows : List Stamped)
     → AllByRecursion (IsShown d) rows
     → AllByRecursion (IsPassedOver d o) (unseen_of o rows)
@@ -44,7 +44,7 @@ passed_over d o (r ∷ rows) wide = either (is_looked_at o r.cells) refl (passed
     either true e a = a
     either false e a = (record { row = wide.0; unseen = e }, a)
 
--- those that are looked at, with the others, are all
+-- the rows that are looked at and the others are together all rows
 pub seen_and_unseen : (o : Option Sought) (seen rows : List Stamped)
     → SameBag seen (filter (λ (r : Stamped). is_looked_at o r.cells) rows)
     → SameBag (seen ++ unseen_of o rows) rows
@@ -56,9 +56,9 @@ seen_and_unseen o seen rows b =
           w rows;
     })
 
--- ---- what becomes of them
+-- ---- the outcome of a change
 
--- the same new rows, and as many that are touched; or none, since an evaluation is out of range
+-- both have the same new rows and the same number of touched rows, or both fail since an evaluation is out of range
 abbrev pub SameNews : Option (List Fate) → Option (List Fate) → Type 0
 SameNews None None = Unit {0}
 SameNews (Some fs) (Some gs) = (new_rows fs ≡ new_rows gs) × (touched_count fs ≡ touched_count gs)
@@ -66,13 +66,13 @@ SameNews _ _ = ⊥
 
 module _ (law : SafeConditionsAreJudged) (d : TableDef) (portion : Option Period) (conds : List Cond)
     (o : Option Sought) (serves : ServesChange d portion conds o) where
-  -- no change touches such a row, nor is refused for it
+  -- a row that is passed over is not touched, and the change is not refused because of it
   unmet : (r : Stamped) → IsPassedOver d o r → may_touch d portion conds (shown d r) ≡ false
   unmet r p = by_bool (may_touch d portion conds (shown d r))
       (λ e. absurd (let k : true ≡ false = sym (serves r.cells r.start high p.row e) ∙ p.unseen in cc))
       (λ e. e)
 
-  -- so it is not touched
+  -- a row that is passed over is not touched
   pub untouched : (r : Stamped) → IsPassedOver d o r → is_touched d portion conds (shown d r) ≡ Some false
   untouched r p = by_portion portion (unmet r p)
     where
@@ -105,7 +105,7 @@ module _ (law : SafeConditionsAreJudged) (d : TableDef) (portion : Option Period
         more None h = absurd h
         more (Some fs) h = h
 
-    -- a change makes the same new rows of rows as of these with others that are passed over
+    -- appending rows that are passed over does not change the new rows
     pub same_news : (seen rest : List Stamped) → AllByRecursion (IsPassedOver d o) rest
         → SameNews (map_all fate_of seen) (map_all fate_of (seen ++ rest))
     same_news [] rest a = rest_stays rest a
@@ -121,9 +121,9 @@ module _ (law : SafeConditionsAreJudged) (d : TableDef) (portion : Option Period
         before (Some Untouched) (Some fs) (Some gs) h = h
         before (Some (Replaced new)) (Some fs) (Some gs) h = (ap (λ rows. new ++ rows) h.0, ap suc h.1)
 
--- ---- what the change is answered with
+-- ---- the answer of the change
 
--- so the count is the same
+-- the count is the same
 pub news_count : (d : TableDef) (seen rows : List Stamped) (o p : Option (List Fate)) → SameNews o p
     → (outcome_of d seen o).count ≡ (outcome_of d rows p).count
 news_count d seen rows None None h = refl
@@ -131,7 +131,7 @@ news_count d seen rows None (Some gs) h = absurd h
 news_count d seen rows (Some fs) None h = absurd h
 news_count d seen rows (Some fs) (Some gs) h = h.1
 
--- and so are the faults
+-- the faults are the same
 pub news_faults : (d : TableDef) (seen rows : List Stamped) (o p : Option (List Fate)) → SameNews o p
     → (outcome_of d seen o).faults ≡ (outcome_of d rows p).faults
 news_faults d seen rows None None h = refl

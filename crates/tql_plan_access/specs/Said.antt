@@ -1,5 +1,5 @@
--- What is sought of a table's rows: by the values that conjuncts give to the columns of a key or of a reference, within
--- what is said of their application period; else for that alone.
+-- The lookup that conjuncts select: by their values for the columns of a key or a reference, narrowed to the
+-- application period; else by the application period alone.
 use Rattle.std.specs.Prelude.{◌≡◌, ℕ, ℤ, Bool, true, List, map, Option, Some, None}
 use Rattle.tql_spec.specs.Definition.{Application, TableDef}
 use Rattle.tql_spec.specs.Expression.{Cond}
@@ -11,8 +11,8 @@ use Rattle.tql_plan_access.specs.Access.{key_given, narrowed, period_given, safe
 
 -- ---- a period
 
--- the period between these columns is stored at these numbers, and a point that it is to hold, else a period that it is
--- to share a point with, is sought there
+-- the lookup for the application period between two columns, by the numbers at which they are stored: for a point that
+-- it contains, else for a period with which it shares a point
 pub record IsSoughtAt (d : TableDef) (a : Application) (point : Option ℤ) (stretch : Option Period)
     (o : Option Sought) : Type 0 where
   pub stored : ℕ × ℕ
@@ -20,20 +20,20 @@ pub record IsSoughtAt (d : TableDef) (a : Application) (point : Option ℤ) (str
   pub end : IsStoredAt d a.end stored.1
   pub is : o ≡ sought_between stored point stretch
 
--- so it is of this application period for what conjuncts say of it; all rows are looked at where there is none
+-- the lookup that conjuncts give for this application period; none if there is no period
 abbrev pub IsSaidBy : TableDef → List Cond → Option Application → Option Sought → Type 0
 IsSaidBy d conds None o = o ≡ None
 IsSaidBy d conds (Some a) o = IsSoughtAt d a (point_in a.start a.end conds) (stretch_in a.start a.end conds) o
 
--- and for the portion of a change
+-- the lookup for the portion of a change
 abbrev pub IsPortionBy : TableDef → Period → Option Application → Option Sought → Type 0
 IsPortionBy d portion None o = o ≡ None
 IsPortionBy d portion (Some a) o = IsSoughtAt d a None (Some portion) o
 
 -- ---- a key, else a period
 
--- these columns are stored at these numbers, and rows are sought there by the values that conjuncts give to the
--- columns, of them those that are sought for their period
+-- the lookup by the values that conjuncts give to these columns, at the numbers at which they are stored, narrowed to
+-- the lookup for the period
 pub record IsGivenOf (d : TableDef) (conds : List Cond) (columns : List ℕ) (IsSaid : Option Sought → Type 0)
     (o : Option Sought) : Type 0 where
   pub stored : List ℕ
@@ -42,19 +42,19 @@ pub record IsGivenOf (d : TableDef) (conds : List Cond) (columns : List ℕ) (Is
   pub by : IsSaid said
   pub is : o ≡ Some (narrowed stored (map (value_or_null conds) columns) said)
 
--- so rows are sought by these columns, where there are such; else for their period alone
+-- the lookup by these columns, if any; else by the period alone
 abbrev pub IsSoughtBy : TableDef → List Cond → Option (List ℕ) → (Option Sought → Type 0) → Option Sought → Type 0
 IsSoughtBy d conds (Some columns) IsSaid o = IsGivenOf d conds columns IsSaid o
 IsSoughtBy d conds None IsSaid o = IsSaid o
 
--- so they are by the first key to each of whose columns the safe part of the conjuncts gives a value, else by the first
--- such reference; of current rows by what it says of the table's application period, within these or alone
+-- the lookup by the first key, else the first reference, to each of whose columns the safe part gives a value; for
+-- current rows also by what the safe part says of the application period
 abbrev pub IsSoughtFor : TableDef → List Cond → Bool → Option Sought → Type 0
 IsSoughtFor d conds is_current o =
     IsSoughtBy d (safe_part conds) (key_given d conds)
     (IsSaidBy d (safe_part conds) (period_given d is_current)) o
 
--- so a change seeks the current rows; of a portion by that, in the place of what the safe part says
+-- the lookup of a change, which reads current rows; a portion replaces what the safe part says of the period
 abbrev pub IsSoughtForChange : TableDef → Option Period → List Cond → Option Sought → Type 0
 IsSoughtForChange d None conds o = IsSoughtFor d conds true o
 IsSoughtForChange d (Some portion) conds o =

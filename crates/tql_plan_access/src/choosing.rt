@@ -1,4 +1,4 @@
-//! Which rows of a table have to be looked at.
+//! The choice of a table's access path.
 ghost use Rattle.std.specs.Prelude.{◌≡◌, All, IfOk, map, option_map};
 ghost use Rattle.tql_catalog.specs.Defined.{IsDefinition};
 ghost use Rattle.tql_catalog.specs.Sought.{sought_columns};
@@ -18,8 +18,8 @@ use tql_memory::Memory;
 use tql_period::period::Period;
 use tql_plan_laws::constants_are_met;
 
-/// The rows with the values that conjuncts give to the columns of a key, or else of a reference, of them those that are
-/// sought for their period; where they name none, those that are sought for their period.
+/// Returns a lookup by the first key, else by the first reference, whose columns are all given values by the conjuncts,
+/// narrowed to the period of `said`, if any. If there is none, the access path is `said` alone.
 fn keyed<'a>(
     memory: Memory,
     definition: &TableDef,
@@ -39,11 +39,11 @@ fn keyed<'a>(
     }
 }
 
-/// Which rows of a table have to be looked at where these conjuncts are evaluated on each: each other row fails one of
-/// those before the first that can be out of range. Where those give a value to each column of a key, or else of a
-/// reference, the rows with these values, of the first such; of current rows, where they say that the application
-/// period contains a point, or else overlaps with a period, that is written out, those whose period does, among these
-/// or alone. Else all. The only error is a refused growth.
+/// Returns the access path of a table for these conjuncts. Only the conjuncts before the first that can be out of range
+/// are used; every row outside the path fails one of them. If they give a value to each column of a key, or else of a
+/// reference, the path looks up the first such key or reference. For current rows, the path is also restricted to the
+/// rows whose application period contains a constant point, or else overlaps a constant period, if a conjunct says so.
+/// Otherwise all rows are scanned. The only error is a refused allocation.
 pub fn access<'a>(
     memory: Memory,
     definition: &TableDef,
@@ -62,7 +62,7 @@ pub fn access<'a>(
     keyed(memory, definition, terms, decisive, said)
 }
 
-/// The current rows of a table that share a point with a portion, of them those of a key or of a reference.
+/// Returns the access path to the current rows that share a point with a portion, by key or reference where possible.
 fn portion_access<'a>(
     memory: Memory,
     definition: &TableDef,
@@ -86,10 +86,10 @@ fn portion_access<'a>(
     )
 }
 
-/// Which current rows of a table have to be looked at for a change of the rows that pass these conjuncts, or of their
-/// portion: no other row is touched, or has it refused. Of a portion those whose application period shares a point with
-/// it, among those of a key or a reference, which are found as by [`access`]; else those of [`access`]. The only error
-/// is a refused growth.
+/// Returns the access path to the current rows for an UPDATE or DELETE with these conjuncts. The change touches no
+/// other row, and is not refused because of one. With a portion, the path is restricted to rows whose application
+/// period shares a point with it, and uses a key or reference as [`access`] does. Without a portion, it is the path of
+/// [`access`]. The only error is a refused allocation.
 pub fn change_access<'a>(
     memory: Memory,
     definition: &TableDef,

@@ -1,5 +1,5 @@
-//! Which rows of a table have to be looked at, for the conjuncts that are asked of each: all, those of a key, or those
-//! of a period.
+//! Access paths: which rows of a table have to be looked at for a list of conjuncts. These are all rows, or those of a
+//! key, of a period, or of both.
 #![tactic(auto)]
 
 pub mod access;

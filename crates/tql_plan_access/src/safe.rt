@@ -1,4 +1,4 @@
-//! The conjuncts that decide which rows have to be looked at: those before the first that can be out of range.
+//! The safe part of a list of conjuncts: those before the first that can be out of range. It decides the access path.
 ghost use Rattle.std.specs.Prelude.{◌≡◌, All, map};
 ghost use Rattle.tql_expr.specs.Meaning.{cond, HasCond};
 ghost use Rattle.tql_plan_access.specs.Access.{LookingIsEnough, SafePartDecides, safe_part};
@@ -6,8 +6,8 @@ ghost use Rattle.tql_plan_access.specs.Access.{LookingIsEnough, SafePartDecides,
 use tql_expr::terms::{CondId, Terms};
 use tql_spec::safe_conditions;
 
-/// A row that fails a conjunct before the first that can be out of range is not refused, so it need not be looked at:
-/// the rows that meet all of these give what all rows give.
+/// States that a row that fails the safe part fails the conjuncts and raises no error. So it is enough to look at rows
+/// that meet the safe part.
 pub fn safe_part_decides()
     ensures decides { SafePartDecides }
     ensures enough { LookingIsEnough }
@@ -15,7 +15,7 @@ pub fn safe_part_decides()
     safe_conditions();
 }
 
-/// The conjuncts before the first that can be out of range.
+/// Returns the conjuncts before the first that can be out of range.
 pub fn safe_conjuncts<'c>(terms: &Terms, conjuncts: &'c [CondId]) -> &'c [CondId]
     requires { All (HasCond terms.now) conjuncts.now }
     ensures part { map (cond terms.now) result.now ≡ safe_part (map (cond terms.now) conjuncts.now) }

@@ -1,4 +1,4 @@
-//! What conjuncts, or a portion, say of a table's application period.
+//! The access path that conjuncts, or a portion, give for a table's application period.
 ghost use Rattle.std.specs.Prelude.{◌≡◌, All, map};
 ghost use Rattle.tql_catalog.specs.Defined.{IsDefinition};
 ghost use Rattle.tql_expr.specs.Meaning.{cond, HasCond};
@@ -12,8 +12,8 @@ use tql_catalog::table_def::TableDef;
 use tql_expr::terms::{CondId, Terms};
 use tql_period::period::Period;
 
-/// In which manner rows are sought for what conjuncts say of the period between these columns, which are stored at
-/// those numbers.
+/// Returns the lookup that the conjuncts give for the period between these columns, which are stored at the numbers
+/// `stored`. A point takes precedence over a period.
 fn manner_between(
     terms: &Terms,
     conjuncts: &[CondId],
@@ -34,7 +34,7 @@ fn manner_between(
     }
 }
 
-/// In which manner rows of a table are sought for what conjuncts say of its application period.
+/// Returns the lookup that the conjuncts give for the table's application period.
 fn said_manner(definition: &TableDef, terms: &Terms, conjuncts: &[CondId]) -> Manner
     requires { All (HasCond terms.now) conjuncts.now }
     ensures { IsSaidBy definition.now (map (cond terms.now) conjuncts.now) definition.now.application
@@ -49,7 +49,7 @@ fn said_manner(definition: &TableDef, terms: &Terms, conjuncts: &[CondId]) -> Ma
     }
 }
 
-/// The same of current rows; of others all are looked at.
+/// Returns the same for current rows; for other versions all rows are looked at.
 pub(crate) fn current_manner(
     definition: &TableDef,
     terms: &Terms,
@@ -67,7 +67,7 @@ pub(crate) fn current_manner(
     }
 }
 
-/// In which manner rows of a table are sought that share a point with a portion.
+/// Returns the lookup of the rows that share a point with a portion.
 pub(crate) fn portion_manner(definition: &TableDef, portion: Period) -> Manner
     ensures said { IsPortionBy definition.now (points_of portion) definition.now.application (sought_in result) }
     ensures right { IsDefinition definition.now }

@@ -12,13 +12,13 @@ use Rattle.tql_spec.specs.Expression.{Cond, judge, passes, go_on, is_safe, SafeC
 use Rattle.tql_spec.specs.Query.{keep}
 use Rattle.tql_plan_laws.specs.Conjuncts.{AreSafe, is_sure, meets, SafeConjunctsFilter, ConjunctsSplit}
 
--- a conjunct with this truth before the others
+-- a conjunct with this truth value before the others
 by_truth : (t : Truth) (rest : Option Bool) (b : Bool) → rest ≡ Some b → go_on t rest ≡ Some (is_true t && b)
 by_truth False rest b e = refl
 by_truth Unknown rest b e = refl
 by_truth True rest b e = e
 
--- a row passes safe conjuncts where it meets them all
+-- a row passes safe conjuncts if and only if it meets them all
 pub passes_is : SafeConditionsAreJudged → (conds : List Cond) (row : Row) → AreSafe conds
     → passes [] row conds ≡ Some (meets conds row)
 passes_is law [] row h = refl
@@ -33,7 +33,7 @@ by_test : (x : Row) (b : Bool) (xs : List Row) → kept_if x (Some b) (Some xs) 
 by_test x true xs = refl
 by_test x false xs = refl
 
--- and such conjuncts filter
+-- safe conjuncts filter rows
 pub keep_is : SafeConditionsAreJudged → SafeConjunctsFilter
 keep_is law conds [] h = refl
 keep_is law conds (x ∷ xs) h =

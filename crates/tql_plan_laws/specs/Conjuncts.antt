@@ -1,4 +1,4 @@
--- Conjuncts in which nothing is calculated: rows are filtered by them, and none is out of range.
+-- Conjuncts without calculations: they filter rows, and no evaluation is out of range.
 use Rattle.std.specs.Prelude.{◌≡◌, Bool, false, ◌&&◌, IsTrue, List, [], ◌++◌, filter, Option, Some, None}
 use Rattle.std.specs.List.{list_all}
 use Rattle.tql_spec.specs.Datum.{Row}
@@ -6,11 +6,11 @@ use Rattle.tql_spec.specs.Truth.{Truth, is_true}
 use Rattle.tql_spec.specs.Expression.{Cond, judge, is_safe}
 use Rattle.tql_spec.specs.Query.{keep}
 
--- the conjuncts have a truth on every row
+-- the conjuncts have a truth value on every row
 abbrev pub AreSafe : List Cond → Type 0
 AreSafe conds = IsTrue (list_all is_safe conds)
 
--- whether there is a truth, and it is true
+-- whether there is a truth value, and it is true
 abbrev pub is_sure : Option Truth → Bool
 is_sure None = false
 is_sure (Some t) = is_true t
@@ -24,6 +24,6 @@ abbrev pub SafeConjunctsFilter : Type 0
 SafeConjunctsFilter =
     (conds : List Cond) (rows : List Row) → AreSafe conds → keep conds rows ≡ Some (filter (meets conds) rows)
 
--- the law: what meets conjuncts in two lists meets those of each, in whatever order they stand
+-- the law: a row meets the conjuncts of two lists if and only if it meets those of each
 abbrev pub ConjunctsSplit : Type 0
 ConjunctsSplit = (cs ds : List Cond) (row : Row) → meets (cs ++ ds) row ≡ (meets cs row && meets ds row)

@@ -1,4 +1,4 @@
-//! The first calculation of ON and WHERE: what keeps rows from being sought, since it may be out of range.
+//! The first calculation in ON and WHERE. It prevents lookups, because it may be out of range.
 use crate::references::join_condition;
 use std::alloc::AllocError;
 use tql_detail::shown::{Words, push_behind};
@@ -7,7 +7,7 @@ use tql_syntax_tree::condition::{Cond, Conj, Marked, Operand, Test};
 use tql_syntax_tree::expression::{Expr, Named, Primary, Sign, Signed, Term};
 use tql_syntax_tree::statement::{ChainTree, SelectTree};
 
-/// Says a column.
+/// Appends a column name, with its qualifier if it has one.
 fn say_column(memory: Memory, named: Named<'_>, words: &mut Words) -> Result<(), AllocError> {
     if let Some(qualifier) = named.qualifier {
         let qualifier = qualifier.meant(memory)?;
@@ -18,7 +18,7 @@ fn say_column(memory: Memory, named: Named<'_>, words: &mut Words) -> Result<(),
     push_behind(words, "", name.as_str())
 }
 
-/// Says an operand in which nothing is calculated.
+/// Appends an operand that calculates nothing. Aggregates are written as `..`.
 #[cycle(operands)]
 fn say_primary(memory: Memory, primary: &Primary<'_>, words: &mut Words) -> Result<(), AllocError> {
     match primary {
@@ -32,7 +32,7 @@ fn say_primary(memory: Memory, primary: &Primary<'_>, words: &mut Words) -> Resu
     }
 }
 
-/// Says an operand with its sign.
+/// Appends an operand with its sign, except a plus sign.
 #[cycle(operands)]
 fn say_signed(memory: Memory, signed: &Signed<'_>, words: &mut Words) -> Result<(), AllocError> {
     match signed.sign {
@@ -42,23 +42,23 @@ fn say_signed(memory: Memory, signed: &Signed<'_>, words: &mut Words) -> Result<
     say_primary(memory, &signed.primary, words)
 }
 
-/// Says what an expression in which nothing is calculated begins with, which is all of it.
+/// Appends an expression that calculates nothing, so its first operand is all of it.
 #[cycle(operands)]
 fn say_expr(memory: Memory, expr: &Expr<'_>, words: &mut Words) -> Result<(), AllocError> {
     say_signed(memory, &expr.first.first, words)
 }
 
-/// Whether a `-` before this belongs to a number, and calculates nothing.
+/// Whether the operand is a number literal: a `-` before it calculates nothing.
 fn is_number(primary: &Primary<'_>) -> bool {
     matches!(primary, Primary::Number(_))
 }
 
-/// Whether this is a `-` that calculates.
+/// Whether the operand has a `-` that calculates.
 fn negates(signed: &Signed<'_>) -> bool {
     matches!(signed.sign, Sign::Minus) && !is_number(&signed.primary)
 }
 
-/// Tells the first calculation of a primary with its sign, where none is told yet.
+/// Appends the first calculation in a signed operand, if `words` is still empty.
 #[cycle(calculations)]
 fn tell_signed(memory: Memory, signed: &Signed<'_>, words: &mut Words) -> Result<(), AllocError> {
     if !words.as_str().is_empty() {
@@ -75,7 +75,7 @@ fn tell_signed(memory: Memory, signed: &Signed<'_>, words: &mut Words) -> Result
     Ok(())
 }
 
-/// Tells the first calculation of a product.
+/// Appends the first calculation in a product, if `words` is still empty.
 #[cycle(calculations)]
 fn tell_term(memory: Memory, term: &Term<'_>, words: &mut Words) -> Result<(), AllocError> {
     tell_signed(memory, &term.first, words)?;
@@ -90,12 +90,12 @@ fn tell_term(memory: Memory, term: &Term<'_>, words: &mut Words) -> Result<(), A
     Ok(())
 }
 
-/// The sign between two terms.
+/// Returns the sign between two terms, with blanks around it.
 fn sign_of(is_minus: bool) -> &'static str {
     if is_minus { " - " } else { " + " }
 }
 
-/// Tells the first calculation of an expression.
+/// Appends the first calculation in an expression, if `words` is still empty.
 #[cycle(calculations)]
 fn tell_expr(memory: Memory, expr: &Expr<'_>, words: &mut Words) -> Result<(), AllocError> {
     tell_term(memory, &expr.first, words)?;
@@ -110,7 +110,7 @@ fn tell_expr(memory: Memory, expr: &Expr<'_>, words: &mut Words) -> Result<(), A
     Ok(())
 }
 
-/// Tells the first calculation of a period that is marked.
+/// Appends the first calculation in a period given as PERIOD (..) or as the system period, if `words` is still empty.
 fn tell_marked(memory: Memory, marked: &Marked<'_>, words: &mut Words) -> Result<(), AllocError> {
     match marked {
         Marked::FromEnds(start, end) => {
@@ -121,7 +121,7 @@ fn tell_marked(memory: Memory, marked: &Marked<'_>, words: &mut Words) -> Result
     }
 }
 
-/// Tells the first calculation of a period.
+/// Appends the first calculation in a period, if `words` is still empty.
 fn tell_operand(
     memory: Memory,
     operand: &Operand<'_>,
@@ -133,7 +133,7 @@ fn tell_operand(
     }
 }
 
-/// Tells the first calculation of the members of an IN list.
+/// Appends the first calculation in the members of an IN list, if `words` is still empty.
 fn tell_members(
     memory: Memory,
     members: &[Box<Expr<'_>, Memory>],
@@ -145,7 +145,7 @@ fn tell_members(
     Ok(())
 }
 
-/// Tells the first calculation of a test.
+/// Appends the first calculation in a test, if `words` is still empty.
 #[cycle(conditions)]
 fn tell_test(memory: Memory, test: &Test<'_>, words: &mut Words) -> Result<(), AllocError> {
     match test {
@@ -180,7 +180,7 @@ fn tell_test(memory: Memory, test: &Test<'_>, words: &mut Words) -> Result<(), A
     }
 }
 
-/// Tells the first calculation of what AND joins.
+/// Appends the first calculation in a conjunction, if `words` is still empty.
 #[cycle(conditions)]
 fn tell_conj(memory: Memory, conj: &Conj<'_>, words: &mut Words) -> Result<(), AllocError> {
     tell_test(memory, &conj.first.test, words)?;
@@ -190,7 +190,7 @@ fn tell_conj(memory: Memory, conj: &Conj<'_>, words: &mut Words) -> Result<(), A
     Ok(())
 }
 
-/// Tells the first calculation of a condition.
+/// Appends the first calculation in a condition, if `words` is still empty.
 #[cycle(conditions)]
 fn tell_condition(
     memory: Memory,
@@ -204,7 +204,7 @@ fn tell_condition(
     Ok(())
 }
 
-/// Tells the first calculation of a chain's ON clauses.
+/// Appends the first calculation in the ON clauses of a chain, if `words` is still empty.
 fn tell_chain(memory: Memory, chain: &ChainTree<'_>, words: &mut Words) -> Result<(), AllocError> {
     for join in &chain.joins {
         if let Some(condition) = join_condition(join) {
@@ -214,9 +214,9 @@ fn tell_chain(memory: Memory, chain: &ChainTree<'_>, words: &mut Words) -> Resul
     Ok(())
 }
 
-/// The first calculation of the ON clauses of a select and of its WHERE, in the order of the text and from the inside:
-/// its operands are columns and numbers. No words where nothing is calculated there. The only error is a refused
-/// growth.
+/// Returns the first calculation in the ON clauses and the WHERE of a select, in the order of the text, the innermost
+/// first: its operands calculate nothing themselves. Empty if nothing is calculated there. The only error is a refused
+/// allocation.
 pub(crate) fn first_calculation(
     memory: Memory,
     select: &SelectTree<'_>,

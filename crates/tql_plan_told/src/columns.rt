@@ -1,10 +1,10 @@
-//! The columns of a query's rows by their numbers, as their tables name them.
+//! The names of the columns of a query's rows, by their numbers.
 use tql_bound::query::Chain;
 use tql_bound::reference::Reference;
 use tql_catalog::catalog::Catalog;
 use tql_catalog::table_def::TableDef;
 
-/// The definition of a reference's table.
+/// Returns the definition of a reference's table.
 pub(crate) fn definition_of(catalog: &Catalog, reference: Reference) -> Option<&TableDef> {
     if reference.table < catalog.len() {
         Some(&catalog.table(reference.table).definition)
@@ -13,13 +13,13 @@ pub(crate) fn definition_of(catalog: &Catalog, reference: Reference) -> Option<&
     }
 }
 
-/// The name of a table's column.
+/// Returns the name of a table's column.
 pub(crate) fn column_name(definition: &TableDef, number: usize) -> Option<&str> {
     let column = definition.columns().get(number)?;
     Some(column.name.as_str())
 }
 
-/// The name of a reference's column.
+/// Returns the name of a reference's column.
 pub(crate) fn reference_column(
     catalog: &Catalog,
     reference: Reference,
@@ -28,7 +28,7 @@ pub(crate) fn reference_column(
     column_name(definition_of(catalog, reference)?, number)
 }
 
-/// The name of a column of a chain's rows.
+/// Returns the name of a column of a chain's rows.
 pub(crate) fn chain_column<'c>(
     catalog: &'c Catalog,
     chain: &Chain,
@@ -48,7 +48,7 @@ pub(crate) fn chain_column<'c>(
     None
 }
 
-/// How many columns a chain's rows have.
+/// Returns the number of columns of a chain's rows.
 fn width_of(chain: &Chain) -> usize {
     let mut width = chain.first.width;
     for join in &chain.joins {
@@ -57,7 +57,7 @@ fn width_of(chain: &Chain) -> usize {
     width
 }
 
-/// The name of a column of the rows of chains side by side.
+/// Returns the name of a column in the concatenated rows of several chains.
 pub(crate) fn chains_column<'c>(
     catalog: &'c Catalog,
     chains: &[Chain],
@@ -74,7 +74,7 @@ pub(crate) fn chains_column<'c>(
     None
 }
 
-/// Whether these columns of a table are those of the numbers that they have among the stored ones, in this order.
+/// Whether `stored` lists the numbers of these columns among the stored columns, in the same order.
 fn are_stored(definition: &TableDef, columns: &[usize], stored: &[usize]) -> bool {
     if columns.len() != stored.len() {
         return false;
@@ -87,7 +87,7 @@ fn are_stored(definition: &TableDef, columns: &[usize], stored: &[usize]) -> boo
     true
 }
 
-/// Whether the columns of these numbers among the stored ones are those of a key of the table.
+/// Whether the stored columns with these numbers are the columns of a key of the table.
 pub(crate) fn is_key(definition: &TableDef, stored: &[usize]) -> bool {
     definition
         .keys()

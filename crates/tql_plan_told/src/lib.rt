@@ -1,4 +1,4 @@
-//! What is told of a query's plan: by what the rows of each table reference can be found.
+//! The description of a query's plan: the access path of each table reference.
 #![tactic(auto)]
 
 mod calculations;

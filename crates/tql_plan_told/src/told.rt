@@ -1,4 +1,4 @@
-//! A plan in words: by what the rows of each table reference of a query can be found.
+//! A plan in words: the access path of each table reference of a query.
 use crate::calculations::first_calculation;
 use crate::columns::{
     chain_column, chains_column, column_name, definition_of, is_key, reference_column,
@@ -18,7 +18,7 @@ use tql_syntax_tree::expression::Name;
 use tql_syntax_tree::statement::{ChainTree, SelectTree};
 use tql_value::when::When;
 
-/// What is told of: the tables, a select, and the plan for it.
+/// The tables, a select, and the plan that is described.
 #[derive(Clone, Copy)]
 struct Told<'t, 's, 'r, 'p> {
     memory: Memory,
@@ -27,7 +27,7 @@ struct Told<'t, 's, 'r, 'p> {
     plan: &'r Plan<'p>,
 }
 
-/// Says which versions are read, where it is not the current ones.
+/// Appends which versions are read, unless they are the current ones.
 fn say_when(when: When, words: &mut Words) -> Result<(), AllocError> {
     match when {
         When::Now => Ok(()),
@@ -36,7 +36,7 @@ fn say_when(when: When, words: &mut Words) -> Result<(), AllocError> {
     }
 }
 
-/// The other name of a chain's reference, by its number from 0.
+/// Returns the alias of a chain's reference, by its number from 0.
 fn chain_alias<'s>(chain: &ChainTree<'s>, number: usize) -> Option<Name<'s>> {
     match number.checked_sub(1) {
         None => chain.first.alias,
@@ -44,7 +44,7 @@ fn chain_alias<'s>(chain: &ChainTree<'s>, number: usize) -> Option<Name<'s>> {
     }
 }
 
-/// The other name of a reference, by the number of its chain and its own in the chain, from 0.
+/// Returns the alias of a reference, by the number of its chain and its number in the chain, both from 0.
 fn alias_at<'s>(select: &SelectTree<'s>, place: usize, number: usize) -> Option<Name<'s>> {
     match place.checked_sub(1) {
         None => chain_alias(&select.first, number),
@@ -52,7 +52,7 @@ fn alias_at<'s>(select: &SelectTree<'s>, place: usize, number: usize) -> Option<
     }
 }
 
-/// Says a table reference: its table, its other name where it has one, and which versions are read.
+/// Appends a table reference: its table, its alias if it has one, and which versions are read.
 fn say_reference(
     told: Told<'_, '_, '_, '_>,
     reference: Reference,
@@ -70,7 +70,7 @@ fn say_reference(
     say_when(reference.when, words)
 }
 
-/// Says the columns of these numbers among the stored ones of a table, with commas between them.
+/// Appends the names of the stored columns with these numbers, in parentheses and with commas between them.
 fn say_columns(
     definition: &TableDef,
     stored: &[usize],
@@ -87,7 +87,7 @@ fn say_columns(
     words.push_str(")")
 }
 
-/// Says the key or the reference of a table by whose columns rows are found.
+/// Appends the key or the reference of a table whose columns a lookup uses.
 fn say_key(definition: &TableDef, stored: &[usize], words: &mut Words) -> Result<(), AllocError> {
     words.push_str(if is_key(definition, stored) {
         " by its key"
@@ -97,7 +97,7 @@ fn say_key(definition: &TableDef, stored: &[usize], words: &mut Words) -> Result
     say_columns(definition, stored, words)
 }
 
-/// Says the application period of a table by which rows are found.
+/// Appends the application period of a table that a lookup uses.
 fn say_period(definition: &TableDef, means: &str, words: &mut Words) -> Result<(), AllocError> {
     words.push_str(means)?;
     match definition.application() {
@@ -106,7 +106,7 @@ fn say_period(definition: &TableDef, means: &str, words: &mut Words) -> Result<(
     }
 }
 
-/// Says by what the rows of the first reference are found.
+/// Appends the access path of the first reference.
 fn say_sought(
     definition: &TableDef,
     sought: Option<Sought<'_>>,
@@ -130,8 +130,8 @@ fn say_sought(
     }
 }
 
-/// Two columns that are said to be equal: the name of one of the rows before, and the number and the name of one of the
-/// partners.
+/// Two columns that a join equates: the name of a column of the rows on the left, and the number and the name of a
+/// column of the joined table.
 #[derive(Clone, Copy)]
 struct Equal<'t> {
     near: &'t str,
@@ -139,7 +139,7 @@ struct Equal<'t> {
     far: &'t str,
 }
 
-/// Says two such columns, and by which means partners can be found by them.
+/// Appends `means` and the two columns, or the common name if they have the same name.
 fn say_equal(means: &str, equal: Equal<'_>, words: &mut Words) -> Result<(), AllocError> {
     push_behind(words, means, equal.near)?;
     if equal.near == equal.far {
@@ -149,7 +149,7 @@ fn say_equal(means: &str, equal: Equal<'_>, words: &mut Words) -> Result<(), All
     }
 }
 
-/// Says the columns of a table by whose index partners can be found, in parentheses where they are several.
+/// Appends the columns of the table's index that the join can use, in parentheses if there are several.
 fn say_index(
     definition: &TableDef,
     columns: &[usize],
@@ -170,7 +170,7 @@ fn say_index(
     if is_one { Ok(()) } else { words.push_str(")") }
 }
 
-/// Whether a list of columns is this one alone.
+/// Whether the list consists of this column alone.
 fn is_alone(columns: &[usize], number: usize) -> bool {
     match columns {
         [column] => *column == number,
@@ -178,8 +178,7 @@ fn is_alone(columns: &[usize], number: usize) -> bool {
     }
 }
 
-/// Says by what partners in a table can be found: by an index of columns that are equal to some before, by a map of
-/// one such column, or by comparing all pairs.
+/// Appends the join method: an index on equated columns, a map on one equated column, or a comparison of all pairs.
 fn say_partners(
     definition: Option<&TableDef>,
     key: Option<&[usize]>,
@@ -200,7 +199,7 @@ fn say_partners(
 }
 
 impl<'t, 'p> Told<'t, '_, '_, 'p> {
-    /// By which equality the rows of the chain at this place can be found behind those before it.
+    /// Returns the equality that joins the chain at this index to the chains before it, if any.
     fn chain_equality(self, place: usize) -> Option<Equality> {
         if place.saturating_add(1) >= self.plan.query.chains.len() {
             self.plan.equality
@@ -209,7 +208,7 @@ impl<'t, 'p> Told<'t, '_, '_, 'p> {
         }
     }
 
-    /// By the index of which columns they can be.
+    /// Returns the columns of the index that the join can use, if any.
     fn chain_key(self, place: usize) -> Option<&'p [usize]> {
         if place.saturating_add(1) >= self.plan.query.chains.len() {
             self.plan.key
@@ -218,7 +217,7 @@ impl<'t, 'p> Told<'t, '_, '_, 'p> {
         }
     }
 
-    /// Which columns are equal there.
+    /// Returns the columns that the equality equates.
     fn chain_equal(self, place: usize, chain: &Chain) -> Option<Equal<'t>> {
         let equality = self.chain_equality(place)?;
         Some(Equal {
@@ -228,7 +227,7 @@ impl<'t, 'p> Told<'t, '_, '_, 'p> {
         })
     }
 
-    /// Says by what the rows of a chain can be found behind those of the chains before it.
+    /// Appends the join method of a chain with the chains before it.
     fn say_product(self, place: usize, chain: &Chain, words: &mut Words) -> Result<(), AllocError> {
         say_partners(
             definition_of(self.catalog, chain.first),
@@ -238,7 +237,7 @@ impl<'t, 'p> Told<'t, '_, '_, 'p> {
         )
     }
 
-    /// Says the joins of a chain, each behind a comma.
+    /// Appends the joins of a chain, each after a comma.
     fn say_joins(self, place: usize, chain: &Chain, words: &mut Words) -> Result<(), AllocError> {
         for (at, join) in chain.joins.iter().enumerate() {
             words.push_str(", ")?;
@@ -248,17 +247,17 @@ impl<'t, 'p> Told<'t, '_, '_, 'p> {
         Ok(())
     }
 
-    /// By which equality the rows of the reference of a join can be found behind those before it in its chain.
+    /// Returns the equality that joins a reference to the references before it in its chain, if any.
     fn step_equality(self, place: usize, at: usize) -> Option<Equality> {
         self.plan.chains.get(place)?.joins.get(at)?.equality
     }
 
-    /// By the index of which columns they can be.
+    /// Returns the columns of the index that the join can use, if any.
     fn step_key(self, place: usize, at: usize) -> Option<&'p [usize]> {
         self.plan.chains.get(place)?.joins.get(at)?.key
     }
 
-    /// Which columns are equal there.
+    /// Returns the columns that the equality equates.
     fn step_equal(
         self,
         place: usize,
@@ -274,7 +273,7 @@ impl<'t, 'p> Told<'t, '_, '_, 'p> {
         })
     }
 
-    /// Says by what the partners of a join can be found.
+    /// Appends the join method of a join.
     fn say_step(
         self,
         place: usize,
@@ -291,7 +290,7 @@ impl<'t, 'p> Told<'t, '_, '_, 'p> {
         )
     }
 
-    /// Says the first reference of the first chain, and by what its rows are found.
+    /// Appends the first reference of the first chain, and its access path.
     fn say_first(self, reference: Reference, words: &mut Words) -> Result<(), AllocError> {
         say_reference(self, reference, 0, 0, words)?;
         match definition_of(self.catalog, reference) {
@@ -300,7 +299,7 @@ impl<'t, 'p> Told<'t, '_, '_, 'p> {
         }
     }
 
-    /// Says a chain behind others: one reference by itself, and several in parentheses.
+    /// Appends a chain after others: a single reference as it is, several in parentheses.
     fn say_next(self, place: usize, chain: &Chain, words: &mut Words) -> Result<(), AllocError> {
         if chain.joins.is_empty() {
             words.push_str(", ")?;
@@ -315,7 +314,7 @@ impl<'t, 'p> Told<'t, '_, '_, 'p> {
         self.say_product(place, chain, words)
     }
 
-    /// Says a chain, by its place.
+    /// Appends the chain at an index.
     fn say_chain(self, place: usize, chain: &Chain, words: &mut Words) -> Result<(), AllocError> {
         if place == 0 {
             self.say_first(chain.first, words)?;
@@ -325,7 +324,7 @@ impl<'t, 'p> Told<'t, '_, '_, 'p> {
         }
     }
 
-    /// Says what may be out of range, where for it nothing is sought.
+    /// Appends the calculation that may be out of range, if the plan is unsafe and has no lookup.
     fn say_reason(self, words: &mut Words) -> Result<(), AllocError> {
         if self.plan.is_safe || self.plan.access.sought().is_some() {
             return Ok(());
@@ -337,11 +336,11 @@ impl<'t, 'p> Told<'t, '_, '_, 'p> {
     }
 }
 
-/// A plan in words, of a select over these tables: for each table reference, from the left, by what its rows can be
-/// found. The first one's are found by a key, a reference or the application period of its table, or it is read whole;
-/// the others' can be by an index of columns, which many rows do not ask, or by a map of their rows by a column, that
-/// ON or WHERE says to be equal to some before, or all pairs are compared. Where a calculation of ON or WHERE may be
-/// out of range and nothing is sought, the first one is told. The only error is a refused growth.
+/// Describes the plan of a select over these tables: the access path of each table reference, from the left. The first
+/// reference uses a key, a reference or the application period of its table, or is read whole. Each other reference is
+/// joined by an index or a map on columns that ON or WHERE equates with earlier ones, or by comparing all pairs. The
+/// index is not used for many outer rows. If a calculation in ON or WHERE may be out of range and there is no lookup,
+/// the first calculation is named. The only error is a refused allocation.
 pub fn plan_words(
     memory: Memory,
     catalog: &Catalog,

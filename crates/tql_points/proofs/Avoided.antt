@@ -1,4 +1,4 @@
--- What an expression or a condition that avoids the names of periods is bound to reads no column of them.
+-- An expression or a condition that avoids the names of periods is bound to one that reads no column of them.
 use Rattle.std.proofs.Common.{◌≡◌, ◌<◌, refl, sym, ap, subst, ◌∙◌, ℕ, ◌+◌, suc, Bool, true, false, List, [], ◌∷◌}
 use Rattle.std.proofs.Common.{map, filter, get_or, length, inl, inr, arith}
 use Rattle.std.specs.Prelude.{ℤ, not, ◌||◌, ◌&&◌, if◌then◌else◌, Option, Some, None}
@@ -34,24 +34,24 @@ use Rattle.tql_points.specs.NamesAvoided.{conj_avoids, tests_avoid, factor_avoid
 use Rattle.tql_points.proofs.Tables.{not_true}
 use Rattle.tql_points.proofs.Views.{both_true}
 
--- neither part of an OR holds
+-- if neither part is true, the disjunction is false
 pub or_false : (a b : Bool) → a ≡ false → b ≡ false → a || b ≡ false
 or_false a b e f = ap (λ c. c || b) e ∙ f
 
 module _ (names : List Name) (q : ℕ → Bool) where
-  -- a reference in scope: the columns that are called otherwise pass the test not, and its periods are called so
+  -- a reference in scope: columns with other names fail the test, and each of its periods has one of these names
   pub record IsClear (k : Known) : Type 0 where
     pub columns : (i : ℕ) → i < length k.columns
         → has_name (get_or (map (λ (c : Column). c.name) k.columns) i []) names ≡ false → q (k.offset + i) ≡ false
     pub periods : (a : Application) → In a k.applications → has_name a.name names ≡ true
 
-  -- each reference
+  -- each reference of the scope is clear
   pub record AreClear (scope : List Known) : Type 0 where
     pub each : (k : Known) → In k scope → IsClear k
 
   -- ---- names
 
-  -- no period, nor a column that passes
+  -- not a period, and not a column that passes the test
   abbrev FreeThing : Thing → Type 0
   FreeThing (AColumn i c) = q i ≡ false
   FreeThing (APeriod s e k) = ⊥
@@ -227,7 +227,7 @@ module _ (names : List Name) (q : ℕ → Bool) where
         (or_false (uses_column q a.expr) (uses_column q (expr scope e).value.expr) h (sum_free e x))
         (list_free a h f es z.0 z.1)
 
-    -- three or four parts of an OR
+    -- three or four parts of a disjunction
     or_three : (a b c : Bool) → a ≡ false → b ≡ false → c ≡ false → a || b || c ≡ false
     or_three a b c e f g = ap (λ x. x || b || c) e ∙ or_false b c f g
 
@@ -254,7 +254,7 @@ module _ (names : List Name) (q : ℕ → Bool) where
     contained_free x h e f None k = point_free x h e f
     contained_free x h e f (Some r) k = named_free x h e f (things scope r) (things_free scope clear r (k r refl))
 
-    -- the name that an expression is
+    -- the name that an expression consists of
     sole_free : (e : tree.Sum) → sum_avoids names e ≡ true → (r : Named) → sole_name e ≡ Some r
         → has_name r.name names ≡ false
     sole_free (Terms (Factors (Positive p) f) m) e r w = absurd (cc)
@@ -335,7 +335,7 @@ module _ (names : List Name) (q : ℕ → Bool) where
           let z = both_true (operand_avoids names x) (sum_avoids names a) e in
           contained_free (operand scope x).value (operand_free x z.0) a z.1 (sole_name a) (sole_free a z.1)
 
-    -- ---- a WHERE
+    -- ---- WHERE
 
     abbrev AllFree : List Cond → Type 0
     AllFree cs = list_all (λ c. not (has_expr (uses_column q) c)) cs ≡ true

@@ -1,4 +1,4 @@
--- A change of a table is refused exactly where the change that some point is given is, with the first of the refusals.
+-- A change of a table is refused exactly if the change given to some point is, with the first of the refusals.
 use Rattle.std.proofs.Common.{◌≡◌, ◌≤◌, refl, sym, ap, subst, ◌∙◌, ℕ, Bool, true, false, List, [], ◌∷◌, ◌++◌}
 use Rattle.std.proofs.Common.{flat_map, inl, inr, arith}
 use Rattle.std.specs.Prelude.{◌⊎◌, ◌&&◌, ◌↔◌, ℤ, Option, Some, None}
@@ -106,11 +106,11 @@ numbered_fates d e rows None = numbered_out
 numbered_fates d e rows (Some fates) =
     numbered_flat (λ r. row_faults d (shown d r)) (new_rows fates) (λ r. numbered_row d e (shown d r))
 
--- ---- the first of all, and of the points
+-- ---- the first refusal, of the whole and of the points
 
 module _ (whole : Outcome) (reduced : ℤ → Outcome) (h : FaultsAtPoints whole reduced)
     (w : (p : ℤ) → Within (reduced p).faults) (n : (p : ℤ) → Numbered (reduced p).faults) where
-  -- what a point is refused for does not come before the first of all
+  -- no refusal of a point comes before the first refusal of the whole
   none_earlier : (e : Refusal) → IsFirst e whole.faults → (p : ℤ) (f : Refusal) → In f (reduced p).faults
       → place e ≤ place f
   none_earlier e k p f i = elim h.less [
@@ -127,7 +127,7 @@ module _ (whole : Outcome) (reduced : ℤ → Outcome) (h : FaultsAtPoints whole
       alone (inl q) = q
       alone (inr m) = absurd m
 
-  -- and the first of all is at some point
+  -- the first refusal of the whole occurs at some point
   some_has : (e : Refusal) → IsFirst e whole.faults → (p : ℤ) × In e (reduced p).faults
   some_has e k =
       let counted = marked e whole.faults k.there in

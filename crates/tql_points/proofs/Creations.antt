@@ -1,4 +1,4 @@
--- A CREATE TABLE of the scope, without a fault, gives a table of which points can be told one by one.
+-- A CREATE TABLE in scope without a fault creates a table that can be considered at each point.
 use Rattle.std.proofs.Common.{◌≡◌, ◌≤◌, ◌<◌, ◌+◌, refl, sym, ap, subst, ◌∙◌, ℕ, zero, suc, Bool, true, false, List}
 use Rattle.std.proofs.Common.{[], ◌∷◌, ◌++◌}
 use Rattle.std.proofs.Common.{map, filter, get_or, length, inl, inr, arith}
@@ -49,7 +49,7 @@ use Rattle.tql_points.proofs.Views.{both_true}
 
 -- ---- names in lists
 
--- a name that is there
+-- a name that is a member
 pub name_in : (n : Name) (ns : List Name) → In n ns → has_name n ns ≡ true
 name_in n [] m = absurd m
 name_in n (x ∷ ns) (inl e) = ap (λ b. b || has_name n ns) (ap (same_text n) (sym e) ∙ same_text-self n)
@@ -64,12 +64,12 @@ in_flat_map f y [] x m k = absurd m
 in_flat_map f y (z ∷ xs) x (inl e) k = in_left y (f z) (flat_map f xs) (subst (λ v. In y (f v)) e k)
 in_flat_map f y (z ∷ xs) x (inr m) k = in_right y (f z) (flat_map f xs) (in_flat_map f y xs x m k)
 
--- the first of a list is a member
+-- the first element of a list is a member
 first_in : {X : Type 0} (xs : List X) (x : X) → first_of xs ≡ Some x → In x xs
 first_in [] x e = absurd (cc)
 first_in (y ∷ xs) x e = let same : x ≡ y = cc in inl same
 
--- a list with one member
+-- a list with exactly one member
 one_member : {X : Type 0} (xs : List X) → is_empty xs ≡ false → several xs ≡ false → (x : X) × (xs ≡ x ∷ [])
 one_member [] e k = absurd (cc)
 one_member (x ∷ []) e k = (x, refl)
@@ -77,33 +77,33 @@ one_member (x ∷ y ∷ xs) e k =
     let many : nat_lt 1 (length (x ∷ y ∷ xs)) ≡ true = grind (arith, nat_tests) in
     let never : true ≡ false = sym many ∙ k in absurd (cc)
 
--- a test of each holds of a member
+-- if all elements pass a test, a member does
 pub all_member : {X : Type 0} (p : X → Bool) (xs : List X) → list_all p xs ≡ true → (x : X) → In x xs → p x ≡ true
 all_member p [] e x m = absurd m
 all_member p (y ∷ xs) e x (inl q) = ap p q ∙ (both_true (p y) (list_all p xs) e).0
 all_member p (y ∷ xs) e x (inr m) = all_member p xs (both_true (p y) (list_all p xs) e).1 x m
 
--- and the other way
+-- the converse
 pub member_all : {X : Type 0} (p : X → Bool) (xs : List X) → ((x : X) → In x xs → p x ≡ true) → list_all p xs ≡ true
 member_all p [] h = refl
 member_all p (x ∷ xs) h = ap (λ b. b && list_all p xs) (h x (inl refl)) ∙ member_all p xs (λ y m. h y (inr m))
 
--- a member that passes a test
+-- some member passes a test
 some_member : {X : Type 0} (p : X → Bool) (xs : List X) → list_any p xs ≡ true → (x : X) × In x xs × (p x ≡ true)
 some_member p [] e = absurd (cc)
 some_member p (y ∷ xs) e = by_bool (p y)
     (λ b. (y, inl refl, b))
     (λ b. let k = some_member p xs (sym (ap (λ c. c || list_any p xs) b) ∙ e) in (k.0, inr k.1, k.2))
 
--- ---- the table of a statement
+-- ---- the table of a CREATE TABLE statement
 
--- the names of the columns defined are those written
+-- the names of the defined columns are the written names
 names_written : (implied : List Name) (cs : List ColumnTree)
     → map (λ (c : definition.Column). c.name) (map (column implied) cs) ≡ map (λ (c : ColumnTree). c.name) cs
 names_written implied [] = refl
 names_written implied (c ∷ cs) = ap (λ ns. c.name ∷ ns) (names_written implied cs)
 
--- what an application period without a fault is
+-- an application period without a fault
 record IsApplication (es : List Element) (p : PeriodPart) (a : Application) : Type 0 where
   start : IsAt p.start (column_names es) a.start
   end : IsAt p.end (column_names es) a.end
@@ -144,7 +144,7 @@ is_application es p e =
     never : true ≡ false → ⊥
     never q = cc
 
--- what a system period without a fault is
+-- a system period without a fault
 record IsSystem (es : List Element) (p : PeriodPart) (s : System) : Type 0 where
   start : IsAt p.start (column_names es) s.start
   end : IsAt p.end (column_names es) s.end
@@ -223,9 +223,9 @@ are_listed es as' ns p e =
         subst (λ x. IsAt x (period_names es) (period_number es x).value) same
         (number_found (period_names es) m (no_left (period_number es m).faults [] f))
 
--- ---- tables by their names
+-- ---- tables found by name
 
--- a place that is found is a table's
+-- an index found by name is that of a table
 pub place_within : (n : Name) (defs : List TableDef) (t : ℕ) → place_of n defs ≡ Some t → t < length defs
 place_within n [] t e = absurd (cc)
 place_within n (x ∷ defs) t e = by_bool (same_text n x.name)
@@ -244,7 +244,7 @@ place_within n (x ∷ defs) t e = by_bool (same_text n x.name)
         let l = h k refl in
         let s : suc k ≡ t = some_is q in omega (arith, l, s)
 
--- of that name
+-- that table has the name
 pub place_named : (n : Name) (defs : List TableDef) (t : ℕ) → place_of n defs ≡ Some t
     → same_text n (table_at defs t).name ≡ true
 place_named n [] t e = absurd (cc)
@@ -262,7 +262,7 @@ place_named n (x ∷ defs) t e = by_bool (same_text n x.name)
     further None h q = absurd (cc)
     further (Some k) h q = subst (λ i. same_text n (table_at (x ∷ defs) i).name ≡ true) (some_is q) (h k refl)
 
--- it stays where tables are added behind
+-- the index remains the same if tables are appended
 place_more : (n : Name) (defs more : List TableDef) (t : ℕ) → place_of n defs ≡ Some t
     → place_of n (defs ++ more) ≡ Some t
 place_more n [] more t e = absurd (cc)
@@ -283,7 +283,7 @@ at_last : (defs : List TableDef) (d : TableDef) → table_at (defs ++ d ∷ []) 
 at_last [] d = refl
 at_last (x ∷ defs) d = at_last defs d
 
--- two lists of numbers that are one by their test
+-- lists of numbers that compare as equal are equal
 same_list : (is js : List ℕ) → same_numbers is js ≡ true → is ≡ js
 same_list [] [] e = refl
 same_list [] (j ∷ js) e = absurd (cc)
@@ -303,7 +303,7 @@ module _ (defs : List TableDef) (n : Name) (es : List Element) (versioned : Bool
 
   -- ---- the application period
 
-  -- it is one
+  -- there is exactly one application period
   one_part : (p : PeriodPart) × (application_parts es ≡ p ∷ [])
   one_part =
       let f1 : List Refusal = fault_if (is_some (place_of n defs)) TableUnknownOrAlreadyThere in
@@ -342,7 +342,7 @@ module _ (defs : List TableDef) (n : Name) (es : List Element) (versioned : Bool
   is_own : d.application ≡ Some own
   is_own = ap first_of one_application
 
-  -- faults of the parts
+  -- the faults of the parts
   after_whole : (check_each (application_period es) (application_parts es)).faults
       ++ ((check_each (system_period es) (system_parts es)).faults
       ++ ((keys es as' (constraints_of es)).faults
@@ -388,7 +388,7 @@ module _ (defs : List TableDef) (n : Name) (es : List Element) (versioned : Bool
         is = subst (IsSystem es k.0) (sym k.2) (is_system es k.0 k.3);
       }
 
-  -- ---- which columns are whose
+  -- ---- which columns belong to which period
 
   as_wide : length d.columns ≡ length (columns_of es)
   as_wide = length-map (columns_of es) _
@@ -396,7 +396,7 @@ module _ (defs : List TableDef) (n : Name) (es : List Element) (versioned : Bool
   as_named : length (column_names es) ≡ length (columns_of es)
   as_named = length-map (columns_of es) _
 
-  -- a column that is not written as generated is none of the generated ones
+  -- a column that is not written as generated is not one of the generated columns
   not_generated : (o : Option System) → d.system ≡ o → (i : ℕ) → is_generated_at es i ≡ false
       → In i (generated_columns o) → ⊥
   not_generated None e i f m = absurd m
@@ -418,7 +418,7 @@ module _ (defs : List TableDef) (n : Name) (es : List Element) (versioned : Bool
   in_own i m = in_either i (own.start ∷ own.end ∷ []) (generated_columns d.system)
       (subst (λ o. In i (period_columns o ++ generated_columns d.system)) is_own m)
 
-  -- a column of a list without a fault is one of neither period
+  -- a column in a list without a fault belongs to neither period
   listed_payload : (p : Name) (is : List ℕ) → AreListed es as' (Some p) is → list_all (is_payload d) is ≡ true
   listed_payload p is h = member_all (is_payload d) is (λ i m.
       let l = h.there i m in
@@ -467,14 +467,14 @@ module _ (defs : List TableDef) (n : Name) (es : List Element) (versioned : Bool
 
   -- ---- references
 
-  -- what a reference of the scope is
+  -- a reference in scope
   abbrev IsPointReference : Reference → Type 0
   IsPointReference f = (f.by_period ≡ true) × (is_some (place_of f.parent defs) ≡ true)
       × (list_all (is_payload d) f.columns ≡ true)
       × (list_all (is_payload (parent_at defs (place_of f.parent defs))) f.parent_columns ≡ true)
 
   module _ (all : ArePointTables defs) where
-    -- a declared key WITHOUT OVERLAPS of a table in scope has columns of neither period
+    -- the columns of a declared key WITHOUT OVERLAPS of a table in scope belong to neither period
     declared : (parent : TableDef) → IsPointTable defs parent → (is : List ℕ)
         → is_declared_key parent true is ≡ true → list_all (is_payload parent) is ≡ true
     declared parent h is e =
@@ -546,7 +546,7 @@ module _ (defs : List TableDef) (n : Name) (es : List Element) (versioned : Bool
 
   -- ---- CHECKs
 
-  -- the table as its CHECKs see it
+  -- the table as seen by its CHECKs
   abbrev bare : TableDef
   bare = record d { checks = [] }
 
@@ -663,7 +663,7 @@ module _ (defs : List TableDef) (n : Name) (es : List Element) (versioned : Bool
             (omega (arith, two, as_wide), refl, tt),
           )
 
-  -- the other tables stay of the scope, and the new one is
+  -- the other tables remain in scope, and the new one is in scope
   pub creation_in_scope : ArePointTables defs → ArePointTables (defs ++ d ∷ [])
   creation_in_scope all t l = by_bool (nat_lt t (length defs))
       (λ e. subst (IsPointTable (defs ++ d ∷ [])) (sym (get_or-append defs (d ∷ []) no_table t (below e)))
@@ -698,7 +698,7 @@ module _ (defs : List TableDef) (n : Name) (es : List Element) (versioned : Bool
       last : (i : ℕ) → i ≡ length defs → table_at (defs ++ d ∷ []) i ≡ d
       last i e = ap (table_at (defs ++ d ∷ [])) e ∙ at_last defs d
 
-      -- a parent stays where it is
+      -- the index of a parent table does not change
       still_there : (f : Reference) → is_some (place_of f.parent defs) ≡ true
           → (is_some (place_of f.parent (defs ++ d ∷ [])) ≡ true)
           × ((is : List ℕ) → list_all (is_payload (parent_at defs (place_of f.parent defs))) is ≡ true

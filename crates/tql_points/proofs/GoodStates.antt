@@ -1,4 +1,4 @@
--- Statements whose INSERTs give periods that rise leave good rows in every copy.
+-- After statements whose INSERTs give rising periods, the rows of every copy are good.
 use Rattle.std.proofs.Common.{◌≡◌, ◌<◌, refl, sym, ap, subst, ◌∙◌, ℕ, true, false, List, [], ◌∷◌, ◌++◌, length, arith}
 use Rattle.std.specs.Prelude.{◌==◌, nat_lt, ℤ, slice_set, Option, Some, None, Bool, int_le, if◌then◌else◌}
 use Rattle.std.specs.List.{list_all}
@@ -61,7 +61,7 @@ module _ (defs : List TableDef) (all : ArePointTables defs) (p : ℤ) where
   newest_good ds [] g = λ t l r n. absurd (subst (λ xs. In r xs) (none_in ds t) n)
   newest_good ds (e ∷ es) g = g.0
 
-  -- what a horizon leaves
+  -- the copies left by a horizon
   pruned_good : (h : ℤ) (es : List Entry) → GoodEntries defs es → GoodEntries defs (pruned h es)
   pruned_good h [] g = tt
   pruned_good h (e ∷ es) g = (g.0, either (int_le e.moment h) (pruned_good h es g.1))
@@ -87,7 +87,7 @@ module _ (defs : List TableDef) (all : ArePointTables defs) (p : ℤ) where
       by_open None h = fresh_good s g
       by_open (Some e) h = h
 
-  -- one table changed
+  -- a copy with one table changed
   set_good : (copy : Copy) → length copy ≡ length defs → GoodCopy defs copy → (t : ℕ) → t < length defs
       → (rows : List Stamped)
       → AllGood (table_at defs t) rows → GoodCopy defs (slice_set copy t rows)
@@ -98,7 +98,7 @@ module _ (defs : List TableDef) (all : ArePointTables defs) (p : ℤ) where
       (sym (got_other copy t u rows [] (λ q. let z : true ≡ false = sym (equal_test t u q) ∙ e in absurd (cc))))
       (g u n))
 
-  -- what a change without a fault leaves
+  -- the result of a change without a fault
   outcome_good : (s other : State) → Related defs p s other → GoodState defs s → (c : Change)
       → (l : changed_table c < length defs)
       → is_change_of (table_at defs (changed_table c)) c ≡ true → gives_periods defs (ChangeRows c) ≡ true
@@ -183,7 +183,7 @@ module _ (defs : List TableDef) (all : ArePointTables defs) (p : ℤ) where
       below : {n : ℕ} → nat_lt n (length defs) ≡ true → n < length defs
       below {n} q = grind (arith, nat_tests, q)
 
-  -- a step keeps good rows
+  -- a step keeps the rows good
   pub step_good : (s other : State) → Related defs p s other → GoodState defs s → (b : Bound) → is_in_scope defs b
       ≡ true
       → gives_periods defs b ≡ true → GoodState defs (step s b).1

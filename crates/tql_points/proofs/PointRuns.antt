@@ -1,4 +1,4 @@
--- Every run agrees with the machines of all points, in the scope of its statements as they are written.
+-- Every run of statements that are written in scope agrees with the models of all points.
 use Rattle.std.proofs.Common.{◌≡◌, ◌<◌, length, refl, sym, ap, subst, ◌∙◌, ℕ, true, false, List, [], ◌∷◌, ◌++◌}
 use Rattle.std.proofs.Common.{map, arith}
 use Rattle.std.proofs.Common.{inl, inr}
@@ -48,7 +48,7 @@ use Rattle.tql_points.proofs.Views.{both_true}
 use Rattle.tql_points.proofs.WholeRuns.{faulty}
 use Rattle.tql_points.proofs.WrittenChanges.{bound_within}
 
--- ---- what is written in scope
+-- ---- statements that are written in scope
 
 pub creations_in_scope : CreationsAreInScope
 creations_in_scope defs (CreateTree n e es versioned) all k z =
@@ -83,14 +83,14 @@ statements_in_scope defs t all k q e =
 
 -- ---- replies
 
--- what is not refused is replied so
+-- the reply of a statement that is not refused
 replied : (o : Option Refusal) (old : State) (reply : Reply) (new : State)
     → is_refused (unless_refused o old reply new).0 ≡ false → (unless_refused o old reply new).0 ≡ reply
 replied None old reply new e = refl
 replied (Some f) old reply new e = absurd (cc)
 
 module _ (defs : List TableDef) (all : ArePointTables defs) where
-  -- what is done
+  -- an accepted statement has been executed
   done_of : (s : State) (b : Bound) → is_in_scope defs b ≡ true → is_refused (step s b).0 ≡ false
       → (v : Verb) × (n : Option ℕ) × ((step s b).0 ≡ Done v n)
   done_of s (CreateTable d) k e = absurd (cc)
@@ -110,7 +110,7 @@ module _ (defs : List TableDef) (all : ArePointTables defs) where
 
   module _ (s : State) (machines : PointMachines) (r : (p : ℤ) → Related defs p s (machines p))
       (g : GoodState defs s) where
-    -- what the state refuses, each machine refuses
+    -- if the state refuses a statement, the model of each point does
     by_state : (b : Bound) → ((p : ℤ) → statement_at defs p b ≡ b) → ((x : State) → is_refused (effect x b).0 ≡ false)
         → (e : Refusal) → (step s b).0 ≡ Refused e → IsFirstRefusal defs machines b e
     by_state b same open_then e x = by_fault (first (step_faults s b)) refl x
@@ -139,7 +139,7 @@ module _ (defs : List TableDef) (all : ArePointTables defs) where
                   let other : h ≡ f = same_refusal h f (sym z ∙ each p) in omega (arith, ap place is, ap place other);
             }
 
-    -- a refused statement is refused as the first of the machines that refuse it
+    -- a refused statement has the first refusal of the models
     first_refusal : (b : Bound) → is_in_scope defs b ≡ true → gives_periods defs b ≡ true → (e : Refusal)
         → (step s b).0 ≡ Refused e → IsFirstRefusal defs machines b e
     first_refusal (CreateTable d) k z e x = absurd (cc)
@@ -163,7 +163,7 @@ module _ (defs : List TableDef) (all : ArePointTables defs) where
 
     -- ---- one piece
 
-    -- how the machines go along with an answer
+    -- the models follow an answer, and remain related to the state
     abbrev Goes : Piece → Reply → State → Type 0
     Goes x reply mid =
         (next : PointMachines) × GoAlong defs machines x reply next × ((p : ℤ) → Related defs p mid (next p))
@@ -175,7 +175,7 @@ module _ (defs : List TableDef) (all : ArePointTables defs) where
     stays x reply mid q h =
         (machines, h, λ p. subst (λ z. Related defs p z (machines p)) (sym q) (r p), subst (GoodState defs) (sym q) g)
 
-    -- a bound statement that is no query
+    -- a bound statement that is not a query
     bound_goes : (x : Piece) (t : Statement) → HasSense x (Says t)
         → is_in_scope defs (bind defs t).value ≡ true → gives_periods defs (bind defs t).value ≡ true
         → Goes x (step s (bind defs t).value).0 (step s (bind defs t).value).1
@@ -203,7 +203,7 @@ module _ (defs : List TableDef) (all : ArePointTables defs) where
         (refl, inr (Says t, h, λ sound open_then. let never : true ≡ false = sym k ∙ open_then in absurd (cc)))
     asked_goes x t h k q (Some rows) = stays x (Table q.headings (in_order q.ordering rows)) s refl refl
 
-    -- refused, or answered
+    -- a query, refused or answered
     answered_goes : (x : Piece) (t : Statement) → HasSense x (Says t) → is_query t ≡ true → (q : Query)
         → (o : Option Refusal)
         → Goes x (unless_refused o s (asked s q (answer (bag_of s) q)).0 (asked s q (answer (bag_of s) q)).1).0
@@ -239,7 +239,7 @@ module _ (defs : List TableDef) (all : ArePointTables defs) where
     sound_goes x (AtTree m) h k e = bound_goes x (AtTree m) h refl refl
     sound_goes x (PruneTree m) h k e = bound_goes x (PruneTree m) h refl refl
 
-    -- a statement, in scope where it has no fault
+    -- a statement that is in scope if it has no fault
     said_goes : (x : Piece) (t : Statement) → HasSense x (Says t)
         → ((bind defs t).faults ≡ [] → is_statement_in_scope defs t ≡ true)
         → Goes x (respond s t).0 (respond s t).1
@@ -271,7 +271,7 @@ module _ (defs : List TableDef) (all : ArePointTables defs) where
               ),
             ))
 
-    -- an answer
+    -- an answer to a piece
     answer_goes : (x : Piece) (reply : Reply) (mid : State)
         → ((t : Statement) → HasSense x (Says t) → (bind defs t).faults ≡ []
         → IsTrue (is_statement_in_scope defs t)) → Answers s x reply mid → Goes x reply mid
@@ -303,9 +303,9 @@ module _ (defs : List TableDef) (all : ArePointTables defs) where
       let more = run_beside xs rs run.0 new k.0 k.2 k.3 (λ z n. scope z (inr n)) run.2 in
       (more.0, (run.0, k.0, run.1, k.1, (λ p. slices p run.0 (k.0 p) (k.2 p)), more.1))
 
--- ---- tables made first
+-- ---- the statements that create tables
 
--- a statement keeps that there is no commit, and that tables are in scope
+-- a statement keeps the history empty and the tables in scope
 prepared_stays : (s : State) (t : Statement) → IsTrue (prepares t) → IsAtStart s → (bind s.definitions t).faults ≡ []
     → IsAtStart (effect s (bind s.definitions t).value).1
 prepared_stays s (CreateTree n e es versioned) k h z =
@@ -363,7 +363,7 @@ prepared_run (x ∷ xs) (y ∷ rs) s new h scope run =
     prepared_run xs rs run.0 new (prepared_answer s x y run.0 (scope x (inl refl)) h run.1)
     (λ z n. scope z (inr n)) run.2
 
--- a state without a commit and a transaction is the beginning of its tables
+-- a state without a commit and without a transaction is the initial state of its tables
 begins : (s : State) → s.history ≡ [] → s.transaction ≡ None
     → s ≡ record (beginning s.definitions s.next s.horizon) { readers = s.readers }
 begins s e f =
@@ -375,7 +375,7 @@ starts_kept s pieces rs new h scope run =
 
 -- ---- the law
 
--- a run in two parts
+-- a run, divided into two parts
 record TwoRuns (s : State) (xs ys : List Piece) (rs : List Reply) (new : State) : Type 0 where
   first : List Reply
   later : List Reply

@@ -1,4 +1,4 @@
--- A change is refused exactly where some point refuses it, with the first of their refusals.
+-- A change is refused exactly if some point refuses it, with the first of their refusals.
 use Rattle.std.proofs.Common.{◌≡◌, ◌≤◌, ◌<◌, refl, sym, ap, subst, ◌∙◌, ℕ, Bool, true, false, List, [], ◌∷◌, ◌++◌}
 use Rattle.std.proofs.Common.{flat_map, length, inl, inr, arith}
 use Rattle.std.specs.Prelude.{not, ◌&&◌, ◌==◌, nat_lt, ℤ, pos, Option, Some, None}
@@ -47,7 +47,7 @@ use Rattle.tql_points.proofs.Steps.{own_table, their_table, changed_copies, chan
 use Rattle.tql_points.proofs.Steps.{lists_same, step_faults, step_faults_same}
 use Rattle.tql_points.proofs.Views.{both_true}
 
--- ---- where the faults of rows stand in the order of report
+-- ---- the places of the faults of rows in the report order
 
 abbrev pub Within : List Refusal → Type 0
 Within xs = (f : Refusal) → In f xs → (17 ≤ place f) × (place f ≤ 21)
@@ -126,7 +126,7 @@ within_outcome s m copy (Modify t portion work conds) =
 
 -- ---- marks
 
--- one for a fault at this place
+-- one for a fault at this place, otherwise zero
 abbrev pub mark : ℕ → Refusal → ℕ
 mark n f = one_if (place f == n)
 
@@ -143,11 +143,11 @@ found_mark n xs l =
     there f true q z = equal (place f) n q
     there f false q z = let e : one_if (place f == n) ≡ 0 = ap one_if q in absurd (omega (arith, z, e))
 
--- two faults at one place are one
+-- faults at the same place are equal
 pub one_fault : (a b : Refusal) → place a ≡ place b → a ≡ b
 one_fault a b e = let q = one_place a b e in cc
 
--- a fault of a test
+-- a fault that depends on a test
 of_if : (b : Bool) (e f : Refusal) → In f (fault_if b e) → (b ≡ true) × (f ≡ e)
 of_if true e f (inl q) = (refl, q)
 of_if true e f (inr n) = absurd n
@@ -174,7 +174,7 @@ so_refused o old reply new e q = ap (λ z. (unless_refused z old reply new).0) q
 pub same_refusal : (e f : Refusal) → Refused e ≡ Refused f → e ≡ f
 same_refusal e f q = cc
 
--- outcomes that are the same
+-- equal outcomes can be replaced
 same_points : (w w' : Outcome) (r r' : ℤ → Outcome) → FaultsAtPoints w r → w' ≡ w → ((p : ℤ) → r' p ≡ r p)
     → FaultsAtPoints w' r'
 same_points w w' r r' h q k =
@@ -202,7 +202,7 @@ module _ (defs : List TableDef) (all : ArePointTables defs) (s : State) (others 
   abbrev copy' : ℤ → Copy
   copy' p = changed_copy (others p) (c' p)
 
-  -- all that the change is refused for, and the change of a point
+  -- all faults of the change, and the change given to a point
   abbrev all_faults : List Refusal
   all_faults = whole.faults ++ constraint_faults s.definitions copy
 
@@ -266,7 +266,7 @@ module _ (defs : List TableDef) (all : ArePointTables defs) (s : State) (others 
           (renumbered_work (moved (table_at defs t)) work) (conds_at (table_at defs t) p portion conds))
           (w p).moment)
 
-  -- keys and references, by the definitions
+  -- the faults of keys and references, in terms of the definitions
   own_constraints : constraint_faults s.definitions copy ≡ constraint_faults defs copy
   own_constraints = ap (λ ds. constraint_faults ds copy) (r (pos 0)).definitions
 
@@ -274,7 +274,7 @@ module _ (defs : List TableDef) (all : ArePointTables defs) (s : State) (others 
       ≡ constraint_faults (point_tables defs) (copy' p)
   their_constraints p = ap (λ ds. constraint_faults ds (copy' p)) (r p).definitions_then
 
-  -- a fault of keys or references stands behind those of rows
+  -- faults of keys and references come after those of rows
   late : (ds : List TableDef) (x : Copy) (f : Refusal) → In f (constraint_faults ds x) → 22 ≤ place f
   late ds x f n = elim (in_either f (fault_if (not (keys_hold ds x)) DuplicateKey)
       (fault_if (not (references_hold ds x)) ReferenceNotMet) n) [
@@ -282,7 +282,7 @@ module _ (defs : List TableDef) (all : ArePointTables defs) (s : State) (others 
         | inr i ↦ omega (arith, ap place (of_if (not (references_hold ds x)) ReferenceNotMet f i).1)
       ]
 
-  -- a key that fails
+  -- a failed key is among the faults
   key_fault : keys_hold defs copy ≡ false → In DuplicateKey all_faults
   key_fault e = in_right DuplicateKey whole.faults (constraint_faults s.definitions copy)
       (subst (λ xs. In DuplicateKey xs) (sym own_constraints)
@@ -352,7 +352,7 @@ module _ (defs : List TableDef) (all : ArePointTables defs) (s : State) (others 
                 (λ y. omega (arith, h.least ReferenceNotMet (reference_fault y), ap place w.1))
           ]
 
-  -- and some point has the first
+  -- some point has the first fault
   some_has : (e : Refusal) → IsFirst e all_faults → (p : ℤ) × In e (faults_at p)
   some_has e h = elim (in_either e whole.faults (constraint_faults s.definitions copy) h.there) [
     | inl i ↦ of_rows i
@@ -416,20 +416,20 @@ module _ (defs : List TableDef) (all : ArePointTables defs) (s : State) (others 
   abbrev Refuses : ℤ → Refusal → Type 0
   Refuses p f = (step (others p) (statement_at defs p (ChangeRows c))).0 ≡ Refused f
 
-  -- what is refused, and with the first of what
+  -- the change is refused at some point with e, and nowhere with an earlier refusal
   pub record FirstRefusal (e : Refusal) : Type 0 where
     pub point : ℤ
     pub refused : Refuses point e
     pub least : (p : ℤ) (f : Refusal) → Refuses p f → place e ≤ place f
 
-  -- what a state refuses of a change before it is tried
+  -- the refusal of a state before a change is executed
   abbrev before : State → Change → Option Refusal
   before x y = first (step_faults x (ChangeRows y))
 
   same_state : (p : ℤ) → before (others p) (c' p) ≡ before s c
   same_state p = ap first (step_faults_same defs all p (then' p) s (others p) (r p) (ChangeRows c))
 
-  -- where it refuses nothing, the step is the change
+  -- without that refusal, the step executes the change
   step_changed : (x : State) (y : Change) → before x y ≡ None → step x (ChangeRows y) ≡ changed x y
   step_changed x y q = done_then (before x y) x (changed x y).0 (changed x y).1 q
 
@@ -513,7 +513,7 @@ all_both p q (x ∷ xs) e =
     let more = all_both p q xs s.1 in
     (ap (λ b. b && list_all p xs) k.0 ∙ more.0, ap (λ b. b && list_all q xs) k.1 ∙ more.1)
 
--- statements leave good rows
+-- after the statements, the rows are good
 lists_good : (defs : List TableDef) (all : ArePointTables defs) (p : ℤ) (bs : List Bound) (s other : State)
     → Related defs p s other
     → GoodState defs s → list_all (is_in_scope defs) bs ≡ true → list_all (gives_periods defs) bs ≡ true

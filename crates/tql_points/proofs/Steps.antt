@@ -1,4 +1,4 @@
--- A statement that is not refused keeps a state and the state of a point alike.
+-- A statement that is not refused keeps a state and the state of a point related.
 use Rattle.std.proofs.Common.{◌≡◌, ◌<◌, refl, sym, ap, subst, ◌∙◌, ℕ, zero, suc, true, false, cond, List, [], ◌∷◌, ◌++◌}
 use Rattle.std.proofs.Common.{map, get_or, length, arith}
 use Rattle.std.specs.Prelude.{not, ◌&&◌, ◌==◌, nat_lt, ℤ, pos, ◌+ℤ◌, int_le, slice_set, Option, Some, None, is_some}
@@ -67,13 +67,13 @@ none_in (x ∷ xs) (suc t) = none_in xs t
 
 -- ---- refusals
 
--- what is not refused has no fault
+-- a statement that is not refused has no fault
 pub unrefused : (o : Option Refusal) (old : State) (reply : Reply) (new : State)
     → is_refused (unless_refused o old reply new).0 ≡ false → o ≡ None
 unrefused None old reply new e = refl
 unrefused (Some f) old reply new e = absurd (cc)
 
--- and is done
+-- a statement without a fault is executed
 pub done_then : (o : Option Refusal) (old : State) (reply : Reply) (new : State) → o ≡ None
     → unless_refused o old reply new ≡ (reply, new)
 done_then o old reply new e = ap (λ z. unless_refused z old reply new) e
@@ -90,11 +90,11 @@ refused_stays s b e =
     unless_keeps (first (limit_faults s b ++ state_faults s (class_of b))) s (effect s b).0 (effect s b).1
     (effect_keeps s b) k.0 k.1
 
--- what was done at one state, and at that of the point
+-- a step was executed, and both states are still related
 abbrev Kept : List TableDef → ℤ → Reply × State → Reply × State → Type 0
 Kept defs p x y = (is_refused y.0 ≡ false) × Related defs p x.1 y.1
 
--- statements do to the transaction and the clock what they do at a point
+-- a statement and the one given to a point have the same class
 pub class_same : (defs : List TableDef) (p : ℤ) (b : Bound) → class_of (statement_at defs p b) ≡ class_of b
 class_same defs p (CreateTable d) = refl
 class_same defs p (DropTable t) = refl
@@ -109,17 +109,17 @@ class_same defs p (OpenReader n) = refl
 class_same defs p (Read n q) = refl
 class_same defs p (CloseReader n) = refl
 
--- the faults of a step before its effect: by the horizon, the transaction and the clock
+-- the faults of a step before its effect: those of the horizon, the transaction and the clock
 abbrev pub step_faults : State → Bound → List Refusal
 step_faults s b = limit_faults s b ++ state_faults s (class_of b)
 
--- the faults of an opening among these readers
+-- the faults of opening a reader among these readers
 abbrev opening_faults : Name → List Reader → List Refusal
 opening_faults n rs =
     fault_if (nat_le most_readers (length (names_of rs))) TooManyTablesOrReaders
     ++ fault_if (is_live n rs) ReaderNotUsable
 
--- that constraints which hold hold at the point
+-- if the constraints of a copy are satisfied, so are those of the point's copy
 abbrev pub ConstraintsThen : List TableDef → ℤ → Type 0
 ConstraintsThen defs p = (copy other : Copy) → SameCopy defs p copy other → constraint_faults defs copy ≡ []
     → constraint_faults (point_tables defs) other ≡ []
@@ -179,7 +179,7 @@ module _ (defs : List TableDef) (all : ArePointTables defs) (p : ℤ) (constrain
       ∙ ap (λ rs. fault_if (is_some s.transaction) NotInThisTransactionState
       ++ fault_if (passes_some m rs) ReadersAreOpen) r.readers
 
-  -- so do the faults by the horizon and the readers
+  -- the faults of the horizon and the readers are the same
   limits_same : (s other : State) → Related defs p s other → (b : Bound)
       → limit_faults other (statement_at defs p b) ≡ limit_faults s b
   limits_same s other r (CreateTable d) = refl
@@ -207,7 +207,7 @@ module _ (defs : List TableDef) (all : ArePointTables defs) (p : ℤ) (constrain
       ∙ ap (λ ds. fault_if (not (is_live n s.readers) || reads_plain ds q) ReaderNotUsable
       ++ query_faults s.horizon q) (sym r.definitions)
 
-  -- and both
+  -- all faults before the effect are the same
   pub step_faults_same : (s other : State) → Related defs p s other → (b : Bound)
       → step_faults other (statement_at defs p b) ≡ step_faults s b
   step_faults_same s other r b =
@@ -217,7 +217,7 @@ module _ (defs : List TableDef) (all : ArePointTables defs) (p : ℤ) (constrain
 
   -- ---- copies
 
-  -- of a table without rows
+  -- a table without rows
   none_held : (t : ℕ) → t < length defs → (rows others : List Stamped) → rows ≡ [] → others ≡ []
       → HasSlice defs (table_at defs t) p rows others
   none_held t l rows others e f =
@@ -246,7 +246,7 @@ module _ (defs : List TableDef) (all : ArePointTables defs) (p : ℤ) (constrain
   newest_same ds ds' [] (f ∷ fs) c h = absurd h
   newest_same ds ds' (e ∷ es) [] c h = absurd h
 
-  -- the transaction that begins
+  -- a transaction that begins
   fresh_same : (s other : State) → Related defs p s other → SameEntry defs p (working s None) (working other None)
   fresh_same s other r = record {
     moment = r.clock;
@@ -265,7 +265,7 @@ module _ (defs : List TableDef) (all : ArePointTables defs) (p : ℤ) (constrain
       by_open None (Some f) h k = absurd h
       by_open (Some e) None h k = absurd h
 
-  -- one table changed
+  -- one table changed in both copies
   set_copies : (copy other : Copy) → SameCopy defs p copy other → (t : ℕ) → t < length defs
       → (rows others : List Stamped) → HasSlice defs (table_at defs t) p rows others
       → SameCopy defs p (slice_set copy t rows) (slice_set other t others)
@@ -335,7 +335,7 @@ module _ (defs : List TableDef) (all : ArePointTables defs) (p : ℤ) (constrain
     open_then = tt;
   }
 
-  -- what a horizon leaves
+  -- the copies left by a horizon
   pruned_same : (h : ℤ) (es fs : List Entry) → SameEntries defs p es fs
       → SameEntries defs p (pruned h es) (pruned h fs)
   pruned_same h [] [] k = tt
@@ -359,7 +359,7 @@ module _ (defs : List TableDef) (all : ArePointTables defs) (p : ℤ) (constrain
   with_working_same s other r None (Some y) h e f k = absurd h
   with_working_same s other r (Some x) None h e f k = absurd h
 
-  -- what a change of one table gives at a point, where it does not depend on the copies
+  -- the result of a change of one table at a point, for any related copies
   abbrev pub Reduces : State → State → ℕ → Change → Change → Type 0
   Reduces s other t c c' = (copy copy' : Copy) (m m' : ℤ) → m' ≡ m → SameCopy defs p copy copy'
       → IsReduced (table_at defs t) (point_table defs (table_at defs t)) p (outcome s m copy c)
@@ -388,7 +388,7 @@ module _ (defs : List TableDef) (all : ArePointTables defs) (p : ℤ) (constrain
         same = k.0.rows sound;
       })))
 
-  -- a change that reduces
+  -- a change that reduces to the point
   changed_by : (s other : State) → Related defs p s other → (t : ℕ) → t < length defs → (c c' : Change)
       → changed_table c ≡ t → changed_table c' ≡ t
       → Reduces s other t c c'
@@ -431,7 +431,7 @@ module _ (defs : List TableDef) (all : ArePointTables defs) (p : ℤ) (constrain
             (record { moment = w.moment; copy = same }),
       ))
 
-  -- the table of a state at its place
+  -- the table of a state at its index
   pub own_table : (s other : State) → Related defs p s other → (t : ℕ) → table_at s.definitions t ≡ table_at defs t
   own_table s other r t = ap (λ ds. table_at ds t) r.definitions
 
@@ -439,7 +439,7 @@ module _ (defs : List TableDef) (all : ArePointTables defs) (p : ℤ) (constrain
       → table_at other.definitions t ≡ point_table defs (table_at defs t)
   their_table s other r t l = ap (λ ds. table_at ds t) r.definitions_then ∙ point_table_at defs defs t l
 
-  -- what a change leaves fits
+  -- the rows after a change fit the table
   pub own_fits : (s other : State) → Related defs p s other → (t : ℕ) → t < length defs → (c : Change) → changed_table c
       ≡ t
       → (m : ℤ) (copy : Copy) → AllFit (table_at defs t) (rows_in copy t)
@@ -465,7 +465,7 @@ module _ (defs : List TableDef) (all : ArePointTables defs) (p : ℤ) (constrain
       (subst (λ u. AllFit (table_at other.definitions u) (rows_in copy u)) (sym q)
       (subst (λ z. AllFit z (rows_in copy t)) (sym (their_table s other r t l)) f)))
 
-  -- the table that a change is of, at a point
+  -- the table of a change is the same at a point
   pub same_table : (d : TableDef) (c : Change) → changed_table (change_at d p c) ≡ changed_table c
   same_table d (InsertTuples t columns tuples) = refl
   same_table d (InsertQuery t columns q) = refl

@@ -1,4 +1,4 @@
--- A run over pieces in scope, point by point.
+-- A run over pieces in scope, seen at each point.
 use Rattle.std.proofs.Common.{◌≡◌, ◌<◌, length, arith, refl, sym, ap, subst, ◌∙◌, ℕ, true, false, List, [], ◌∷◌, map}
 use Rattle.std.proofs.Common.{◌++◌}
 use Rattle.std.proofs.Common.{inl, inr}
@@ -32,14 +32,14 @@ use Rattle.tql_points.proofs.Runs.{alike}
 use Rattle.tql_points.proofs.Steps.{refused_stays, step_same}
 
 module _ (defs : List TableDef) (all : ArePointTables defs) where
-  -- one piece answered: refused, and nothing changed, or a statement in scope that is taken
+  -- one answered piece: either refused without a change, or an accepted statement in scope
   pub data OneAnswer (old : State) (x : Piece) (reply : Reply) (mid : State) : Type 0 where
     Kept : is_refused reply ≡ true → mid ≡ old → OneAnswer old x reply mid
     Taken : (t : Statement) → HasSense x (Says t) → (bind defs t).faults ≡ []
         → is_in_scope defs (bind defs t).value ≡ true
         → is_refused reply ≡ false → (reply, mid) ≡ step old (bind defs t).value → OneAnswer old x reply mid
 
-  -- a statement with a fault of its names is refused
+  -- a statement with a fault in its names is refused
   pub faulty : (s : State) (t : Statement) (f : Refusal) → first (bind s.definitions t).faults ≡ Some f
       → (is_refused (respond s t).0 ≡ true) × ((respond s t).1 ≡ s)
   faulty s t f e = by_first (first (statement_faults s t)) refl
@@ -83,7 +83,7 @@ module _ (defs : List TableDef) (all : ArePointTables defs) where
               ∙ refused_stays old (bind defs t).value (sym (ap (λ (z : Reply × State). is_refused z.0) same) ∙ r)))
               (λ r. Taken t h sound (scope (Says t) h sound) r same)
 
-  -- what a run takes
+  -- the statements that a run accepts
   abbrev RunTakes : (ℤ → State) → List Piece → List Reply → State → Type 0
   RunTakes others xs rs new =
       (taken : List Bound) × AreTaken defs xs rs taken
@@ -125,7 +125,7 @@ module _ (defs : List TableDef) (all : ArePointTables defs) where
             ),
           )
 
-  -- a run leaves good rows
+  -- after a run, the rows are good
   run_good : (xs : List Piece) (rs : List Reply) (s new other : State) → (p : ℤ) → Related defs p s other
       → GoodState defs s
       → ArePiecesInScope defs xs → PiecesGivePeriods defs xs → Run s xs rs new → GoodState defs new

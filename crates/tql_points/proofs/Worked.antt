@@ -37,7 +37,7 @@ pay = record {
   checks = Compare Above (Column 0) (Literal (Int (pos 0))) ∷ [];
 }
 
--- it is in scope
+-- the table is in scope
 pay_in_scope : ArePointTables (pay ∷ [])
 pay_in_scope zero l = record {
   period = refl;
@@ -53,7 +53,7 @@ pay_in_scope zero l = record {
     only k (inr n) = absurd n
 pay_in_scope (suc t) l = absurd (omega arith)
 
--- values of cells
+-- cell values
 abbrev num : ℕ → Expr
 num n = Literal (Int (pos n))
 
@@ -63,9 +63,9 @@ day n = Literal (Day (pos n))
 abbrev text : ℕ → Expr
 text b = Literal (Text (b ∷ []))
 
--- a row for the days 0 to 99; 'B' for the days 30 to 59; an overlap that is refused; a change that is undone; history
--- pruned, and what would go back before the horizon refused; 'C' for days that begin where the row ends; and the days
--- 50 to 69 taken out
+-- A row for the days 0 to 99; 'B' for the days 30 to 59; an overlap that is refused; a change that is rolled back;
+-- pruned history, and an earlier horizon that is refused; 'C' from the day on which the row ends; and the days 50 to 69
+-- deleted.
 abbrev script : List Bound
 script =
     ChangeRows (InsertTuples 0 (0 ∷ 1 ∷ 2 ∷ 4 ∷ []) ((num 7 ∷ day 0 ∷ day 100 ∷ text 65 ∷ []) ∷ []))
@@ -81,17 +81,17 @@ script =
 script_in_scope : IsTrue (list_all (is_in_scope (pay ∷ [])) script)
 script_in_scope = refl
 
--- what is found now on whole tables, at a point
+-- the rows found now in the whole tables, at a point
 abbrev sliced : ℤ → List Row
 sliced p = slice pay p (answer_of (after_all (beginning (pay ∷ []) (pos 5) (pos 0)) script) 0 Now)
 
--- what the machine of the point finds now
+-- the rows found now by the model of the point
 abbrev plain : ℤ → List Row
 plain p = payloads (point_table (pay ∷ []) pay)
     (answer_of (after_all (point_beginning (pay ∷ []) (pos 5) (pos 0)) (given_at (pay ∷ []) (pos 5) (pos 0) p script)) 0
     Now)
 
--- a row that says the number and a letter
+-- a row with the number and a letter
 abbrev says : ℕ → List Row
 says b = (Int (pos 7) ∷ Text (b ∷ []) ∷ []) ∷ []
 
@@ -119,15 +119,16 @@ eight_taken = refl
 
 -- ---- a refusal
 
--- its INSERTs give periods that rise
+-- its INSERTs give rising periods
 periods_given : IsTrue (list_all (gives_periods (pay ∷ [])) script)
 periods_given = refl
 
--- the change that is refused for its key at one day
+-- a change that is refused because of a key on one day
 abbrev overlap : Change
 overlap = InsertTuples 0 (0 ∷ 1 ∷ 2 ∷ 4 ∷ []) ((num 7 ∷ day 99 ∷ day 120 ∷ text 67 ∷ []) ∷ [])
 
--- what the whole tables answer to it after the first two statements, and the machines of two days
+-- the replies to this change after the first two statements: that of the whole tables, and those of the models of two
+-- days
 overlap_refused : (step (after_all (beginning (pay ∷ []) (pos 5) (pos 0)) (take 2 script)) (ChangeRows overlap)).0
     ≡ Refused DuplicateKey
 overlap_refused = refl

@@ -1,4 +1,4 @@
--- Worked statements as they are written, and whether they are in scope.
+-- Worked examples of written statements, and whether they are in scope.
 use Rattle.std.specs.Prelude.{refl, ℕ, Bool, true, false, IsTrue, IsFalse, List, [], ◌∷◌, Option, Some, None, codes}
 use Rattle.tql_spec.specs.Datum.{Above}
 use Rattle.tql_spec.specs.Definition.{Name, TableDef}
@@ -30,7 +30,7 @@ holds_if t = AnyOf (AllOf (Straight t) NoTest) NoConj
 abbrev eno : Element
 eno = column (codes "ENO") IntegerType None
 
--- the columns and the periods behind the first column
+-- the columns and the periods after the first column
 abbrev rest : List Element
 rest =
     column (codes "ESTART") DateType None ∷ column (codes "EEND") DateType None

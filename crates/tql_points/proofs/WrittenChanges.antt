@@ -1,4 +1,4 @@
--- A statement of the scope, as it is written, is bound to one of which points can be told one by one.
+-- A statement that is written in scope is bound to one that can be considered at each point.
 use Rattle.std.proofs.Common.{◌≡◌, ◌<◌, ◌+◌, refl, sym, ap, subst, ◌∙◌, ℕ, zero, suc, Bool, true, false, List, []}
 use Rattle.std.proofs.Common.{◌∷◌, ◌++◌}
 use Rattle.std.proofs.Common.{map, get_or, length, inl, inr, arith}
@@ -58,7 +58,7 @@ use Rattle.tql_points.proofs.Views.{both_true}
 
 -- ---- tables
 
--- a table that is found
+-- a table found by its name
 record IsFound (n : Name) (defs : List TableDef) (t : ℕ) : Type 0 where
   within : t < length defs
   named : same_text n (table_at defs t).name ≡ true
@@ -76,7 +76,7 @@ in_at [] i d l = absurd (omega arith)
 in_at (x ∷ xs) zero d l = inl refl
 in_at (x ∷ xs) (suc i) d l = inr (in_at xs i d (omega arith))
 
--- what holds of each table of the name holds of the one that is found
+-- what is true of each table with the name is true of the table found
 test_found : (n : Name) (test : TableDef → Bool) (defs : List TableDef) (t : ℕ) → IsFound n defs t
     → of_table n test defs ≡ true → test (table_at defs t) ≡ true
 test_found n test defs t f e =
@@ -93,20 +93,20 @@ or_true : (b : Bool) → b || true ≡ true
 or_true true = refl
 or_true false = refl
 
--- the name of a column of a period is one of those of the periods
+-- the name of a period column is one of the table's own names
 own_named : (d : TableDef) (i : ℕ) → In i (own_columns d)
     → has_name (get_or (names_of d) i []) (own_names d) ≡ true
 own_named d i m = name_in (get_or (names_of d) i []) (own_names d)
     (in_right (get_or (names_of d) i []) (application_name d.application)
     (map (λ j. get_or (names_of d) j []) (own_columns d)) (in_map (λ j. get_or (names_of d) j []) i (own_columns d) m))
 
--- a column of another name belongs to no period
+-- a column with another name belongs to no period
 named_payload : (d : TableDef) (i : ℕ) → i < length d.columns
     → has_name (get_or (names_of d) i []) (own_names d) ≡ false → is_payload d i ≡ true
 named_payload d i l e = in_number i _ (to_payload d i l (λ m.
     let never : true ≡ false = sym (own_named d i m) ∙ e in absurd (cc)))
 
--- the scope of a change
+-- the name scope of a change
 own_clear : (d : TableDef) → AreClear (own_names d) (λ i. not (is_payload d i)) (own_scope d)
 own_clear d = record { each = known }
   where
@@ -127,9 +127,9 @@ own_clear d = record { each = known }
     })
     known k (inr m) = absurd m
 
--- ---- the columns that INSERT fills
+-- ---- the columns that an INSERT fills
 
--- each is there and not generated
+-- each column exists and is not generated, and none is listed twice
 record AreOpen (d : TableDef) (is : List ℕ) : Type 0 where
   there : (i : ℕ) → In i is → i < length d.columns
   own : (i : ℕ) → In i is → is_generated d i ≡ false
@@ -148,7 +148,7 @@ once_apart (i ∷ is) e =
     let s = both_true (not (has_number i is)) (once is) e in
     (not_in i is (not_true (has_number i is) s.0), once_apart is s.1)
 
--- names that differ have other numbers
+-- different names have different numbers
 numbers_once : (names ns : List Name) → (check_each (column_number names) ns).faults ≡ [] → repeats ns ≡ false
     → once (check_each (column_number names) ns).value ≡ true
 numbers_once names [] e r = refl
@@ -201,7 +201,7 @@ columns_open d [] e = record {
     kept i m = in_kept (λ j. not (is_generated d j)) i (range_with_len 0 (length d.columns)) m
 columns_open d (n ∷ ns) e = assigned_open d (n ∷ ns) e
 
--- so they are payload, or the period's
+-- they are payload columns or columns of the period
 open_filled : (d : TableDef) (is : List ℕ) → AreOpen d is → are_filled d is ≡ true
 open_filled d is h = member_all (λ i. is_payload d i || has_number i (period_columns d.application)) is (λ i m.
     by_bool (has_number i (period_columns d.application))
@@ -213,14 +213,14 @@ open_filled d is h = member_all (λ i. is_payload d i || has_number i (period_co
       | inr y ↦ not_in i (generated_columns d.system) (h.own i m) y
     ])))))
 
--- ---- the periods that INSERT gives
+-- ---- the periods of an INSERT
 
 -- a value that is this point
 record IsPoint (p : ℤ) (v : Datum) : Type 0 where
   is : is_point v ≡ true
   at : point_of v ≡ p
 
--- the value of an expression on no row
+-- the value of an expression without a row
 abbrev value_of : Expr → Datum
 value_of e = or_null (eval [] [] e)
 
@@ -262,7 +262,7 @@ cell_point : (c : CellTree) (p : ℤ) → point_in c ≡ Some p → IsPoint p (c
 cell_point NullCell p e = absurd (cc)
 cell_point (ValueCell x) p e = sum_point x p e
 
--- a column that is not filled stays
+-- a column that is not filled keeps its value
 filled_other : (row : Row) (is : List ℕ) (vs : List Datum) (i : ℕ) → (In i is → ⊥)
     → definition.cell (filled row is vs) i ≡ definition.cell row i
 filled_other row [] vs i h = refl
@@ -270,7 +270,7 @@ filled_other row (c ∷ cs) [] i h = refl
 filled_other row (c ∷ cs) (v ∷ vs) i h = filled_other (slice_set row c v) cs vs i (λ m. h (inr m))
     ∙ got_other row c i v Null (λ q. h (inl (sym q)))
 
--- a column that is filled has the value of its cell
+-- a filled column has the value of its cell
 filled_point : (row : Row) (is : List ℕ) (cells : List CellTree) (i : ℕ) (p : ℤ) → i < length row → Apart is
     → point_in (cell_for i is cells) ≡ Some p → IsPoint p (definition.cell (filled row is (map cell_value cells)) i)
 filled_point row [] cells i p l a e = absurd (cc)
@@ -299,7 +299,7 @@ cells_many : (cells : List CellTree)
     ≡ length (check_each (cell []) cells).value
 cells_many cells = length-map (check_each (cell []) cells).value _
 
--- as many cells as columns, where the test finds no misfit
+-- if the test finds no misfit, there are as many cells as columns
 as_many : (ks : List Kind) (cs : List (Option Kind)) → cells_misfit ks cs ≡ false → length cs ≡ length ks
 as_many [] [] e = refl
 as_many [] (c ∷ cs) e = absurd (cc)
@@ -307,14 +307,14 @@ as_many (k ∷ ks) [] e = absurd (cc)
 as_many (k ∷ ks) (c ∷ cs) e =
     let l = as_many ks cs (or_second_false _ (cells_misfit ks cs) e) in omega (arith, l)
 
--- two points that rise
+-- two points, the first before the second
 both_rise : (o o' : Option ℤ) → do_rise o o' ≡ true
     → (f : ℤ) × (g : ℤ) × (o ≡ Some f) × (o' ≡ Some g) × (int_lt f g ≡ true)
 both_rise None o' e = absurd (cc)
 both_rise (Some f) None e = absurd (cc)
 both_rise (Some f) (Some g) e = (f, g, refl, refl, e)
 
--- a row whose cells give a period that rises has one
+-- a row whose cells give a rising period has one
 cells_give : (o : Option Application) (a : Application) → o ≡ Some a → (row : Row) (is : List ℕ) (cells : List CellTree)
     → a.start < length row → a.end < length row → Apart is → cells_rise o is cells ≡ true
     → has_points o (filled row is (map cell_value cells)) && rises (period_by o (filled row is (map cell_value cells)))
@@ -333,7 +333,7 @@ cells_give (Some b) a q row is cells l k h e =
     ∙ ap (λ x. int_lt x (point_of (definition.cell new b.end))) start.at
     ∙ ap (int_lt z.0) end.at ∙ z.4
 
--- a tuple of the scope
+-- a tuple in scope
 tuple_gives : (defs : List TableDef) (d : TableDef) → IsPointTable defs d → (is : List ℕ) → once is ≡ true → (t : Tuple)
     → (tuple (kinds_for d is) t).faults ≡ [] → cells_rise d.application is (t.first ∷ t.more) ≡ true
     → gives_period d is (tuple (kinds_for d is) t).value ≡ true
@@ -368,7 +368,7 @@ tuple_gives defs d h is o t e r =
 -- ---- statements
 
 module _ (defs : List TableDef) (all : ArePointTables defs) where
-  -- what is bound in scope
+  -- a bound statement in scope
   pub record IsWithin (b : Bound) : Type 0 where
     pub scope : is_in_scope defs b ≡ true
     pub periods : gives_periods defs b ≡ true
@@ -462,7 +462,7 @@ module _ (defs : List TableDef) (all : ArePointTables defs) where
         periods = refl;
       }
 
-  -- a statement of the scope without a fault
+  -- a statement in scope without a fault
   pub bound_within : (t : Statement) → is_query t ≡ false → is_statement_in_scope defs t ≡ true
       → (bind defs t).faults ≡ [] → IsWithin (bind defs t).value
   bound_within (CreateTree n x es versioned) q k e = absurd (cc)

@@ -1,4 +1,4 @@
--- What a change of a table is refused for, by the points.
+-- The refusals of a change of a table, in terms of the points.
 use Rattle.std.specs.Prelude.{◌≡◌, ◌⊎◌, ◌↔◌, ◌≤◌, ◌&&◌, IsTrue, ℕ, ℤ, List, [], Option, Some, None}
 use Rattle.std.specs.List.{list_all}
 use Rattle.tql_spec.specs.Words.{map_all}
@@ -14,7 +14,7 @@ use Rattle.tql_points.specs.Scope.{is_free_work, is_free_cond, are_filled}
 use Rattle.tql_points.specs.RefusalLaw.{has_period, gives_period, once}
 use Rattle.tql_points.specs.ChangeLaw.{HasSlice}
 
--- a row whose application period rises, without NULL, and that has no fault
+-- a row without faults whose application period has no NULL and rises
 pub record IsSoundRow (d : TableDef) (r : Stamped) : Type 0 where
   pub rising : IsTrue (has_period d (shown d r))
   pub faultless : row_faults d (shown d r) ≡ []
@@ -22,18 +22,18 @@ pub record IsSoundRow (d : TableDef) (r : Stamped) : Type 0 where
 abbrev pub AreSound : TableDef → List Stamped → Type 0
 AreSound d rows = (r : Stamped) → In r rows → IsSoundRow d r
 
--- what a change of a table without periods is refused for: a value out of range, NULL, or a CHECK
+-- the refusals of a change of a table without periods: a value out of range, NULL, or a CHECK
 abbrev pub IsPointRefusal : Refusal → Type 0
 IsPointRefusal e = (e ≡ ValueOutOfRange) ⊎ (e ≡ NullNotAllowed) ⊎ (e ≡ CheckFailed)
 
--- some point refuses its change so, none with an earlier refusal, and it is no refusal of a period
+-- some point refuses its change with e, none has an earlier refusal, and e is one of the refusals above
 pub record IsFirstAtPoints (outcome : ℤ → Outcome) (e : Refusal) : Type 0 where
   pub point : ℤ
   pub refused : first (outcome point).faults ≡ Some e
   pub least : (p : ℤ) (f : Refusal) → first (outcome p).faults ≡ Some f → place e ≤ place f
   pub number : IsPointRefusal e
 
--- the law: an UPDATE or a DELETE is refused exactly where the one that some point is given is, with the first of their
+-- the law: an UPDATE or a DELETE is refused exactly if the change given to some point is, with the first of their
 -- refusals
 abbrev pub ModificationRefusals : Type 0
 ModificationRefusals =
@@ -45,7 +45,7 @@ ModificationRefusals =
     ↔ IsFirstAtPoints (λ p. modify (point_table defs d) m (others p) None (renumbered_work (moved d) work)
     (conds_at d p portion conds)) e
 
--- the law: so is an INSERT whose tuples give periods that rise
+-- the law: the same for an INSERT whose tuples give rising periods
 abbrev pub InsertionRefusals : Type 0
 InsertionRefusals =
     (defs : List TableDef) (d : TableDef) (m : ℤ) (rows : List Stamped) (others : ℤ → List Stamped)

@@ -1,4 +1,4 @@
--- Whether an expression or a condition, as it is written, names none of some names, and no system period.
+-- Whether an expression or a condition, as written, names none of a list of names and no system period.
 use Rattle.std.specs.Prelude.{Bool, true, false, not, ◌&&◌, List, Option, Some, None}
 use Rattle.std.specs.List.{list_all}
 use Rattle.tql_spec.specs.Definition.{Name}
@@ -46,7 +46,7 @@ abbrev mutual
 
 -- ---- periods as operands
 
--- PERIOD (..); a system period is never avoided
+-- PERIOD (..); a system period always counts as named
 abbrev pub marked_avoids : List Name → Marked → Bool
 marked_avoids names (FromEnds s e) = sum_avoids names s && sum_avoids names e
 marked_avoids names (SystemTime q) = false
@@ -87,7 +87,7 @@ abbrev mutual
   test_avoids names (ContainsPeriod x m) = operand_avoids names x && marked_avoids names m
   test_avoids names (ContainsPoint x e) = operand_avoids names x && sum_avoids names e
 
--- a WHERE, where there is one
+-- a WHERE condition, if there is one
 abbrev pub filter_avoids : List Name → Option Condition → Bool
 filter_avoids names None = true
 filter_avoids names (Some c) = condition_avoids names c

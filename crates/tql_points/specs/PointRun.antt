@@ -1,4 +1,4 @@
--- A run of a script beside the machines of all points.
+-- A run of a script, compared with the models of all points.
 use Rattle.std.specs.Prelude.{◌≡◌, ◌⊎◌, ◌≤◌, IsTrue, IsFalse, List, [], ◌∷◌, ◌++◌, ℤ, None}
 use Rattle.tql_spec.specs.Bag.{In}
 use Rattle.tql_spec.specs.Refusal.{Refusal, OutOfMemory, place}
@@ -13,30 +13,30 @@ use Rattle.tql_points.specs.Scope.{ArePointTables}
 use Rattle.tql_points.specs.PointMachine.{is_refused, beginning, point_beginning, SlicesAgree}
 use Rattle.tql_points.specs.StatementScope.{prepares, is_query, is_statement_in_scope}
 
--- ---- the machines of all points
+-- ---- the models of all points
 
--- for each point the state in which its machine is
+-- the state of the model of each point
 abbrev pub PointMachines : Type 0
 PointMachines = ℤ → State
 
--- as they begin beside a state: with its clock, its horizon and its open readers, and its tables without their
--- application periods
+-- the models at the start, given the state of the whole: the same clock, horizon and open readers, and the tables
+-- without their application periods
 abbrev pub machines_of : State → PointMachines
 machines_of s p = record (point_beginning s.definitions s.next s.horizon) { readers = s.readers }
 
--- what the machine of a point replies to the statement as the point is given it
+-- the reply of the model of the point to the statement as given to the point
 abbrev pub reply_at : List TableDef → PointMachines → Bound → ℤ → Reply
 reply_at defs machines b p = (step (machines p) (statement_at defs p b)).0
 
--- the machines after each was given the statement
+-- the models after each was given the statement
 abbrev pub after_each : List TableDef → PointMachines → Bound → PointMachines
 after_each defs machines b p = (step (machines p) (statement_at defs p b)).1
 
--- no machine refuses the statement
+-- no model refuses the statement
 abbrev pub NoneRefuses : List TableDef → PointMachines → Bound → Type 0
 NoneRefuses defs machines b = (p : ℤ) → IsFalse (is_refused (reply_at defs machines b p))
 
--- some machine refuses it so, and none with an earlier refusal
+-- some model refuses it with e, and none has an earlier refusal
 pub record IsFirstRefusal (defs : List TableDef) (machines : PointMachines) (b : Bound) (e : Refusal) : Type 0 where
   pub point : ℤ
   pub refused : reply_at defs machines b point ≡ Refused e
@@ -44,15 +44,15 @@ pub record IsFirstRefusal (defs : List TableDef) (machines : PointMachines) (b :
 
 -- ---- one piece of a script
 
--- what a refusal tells, by what the piece says: the fault of its text; or, where the names, kinds, forms and literals
--- of the statement have no fault, the first of the refusals of the machines
+-- the refusal of a piece: the fault of its text; or, if the names, kinds, forms and literals of the statement have no
+-- fault, the first of the refusals of the models
 abbrev pub TellsRefusal : List TableDef → PointMachines → Sense → Refusal → Type 0
 TellsRefusal defs machines (Faulty f) e = e ≡ f
 TellsRefusal defs machines (Says t) e =
     (bind defs t).faults ≡ [] → IsFalse (is_query t) → IsFirstRefusal defs machines (bind defs t).value e
 
--- how the machines go along with a reply: what is done is done by each, and refused by none; what is refused or asked
--- is given to none, and unless memory lacked, the refusal tells so
+-- how the models follow a reply: a statement that was executed is executed by each model and refused by none. A refused
+-- statement or a query is given to none. A refusal, unless out of memory, is the one above.
 abbrev pub GoAlong : List TableDef → PointMachines → Piece → Reply → PointMachines → Type 0
 GoAlong defs old x (Done verb count) new =
     (t : Statement) × HasSense x (Says t) × NoneRefuses defs old (bind defs t).value
@@ -63,7 +63,7 @@ GoAlong defs old x (Refused e) new =
 
 -- ---- runs
 
--- the answers to pieces, the machines beside them, and behind each answer, at each point, the slices
+-- the answers to the pieces and the models at each step; after each answer, the slices agree at each point
 abbrev pub RunsBeside : List TableDef → State → PointMachines → List Piece → List Reply → State → PointMachines → Type 0
 RunsBeside defs s machines [] [] new after = (new ≡ s) × (after ≡ machines)
 RunsBeside defs s machines (x ∷ xs) (r ∷ rs) new after =
@@ -71,25 +71,25 @@ RunsBeside defs s machines (x ∷ xs) (r ∷ rs) new after =
     × ((p : ℤ) → SlicesAgree defs p mid (next p)) × RunsBeside defs mid next xs rs new after
 RunsBeside defs s machines _ _ new after = ⊥
 
--- tables in scope, without a commit and without an open transaction: so all are empty
+-- tables in scope, with no commit and no open transaction, so all are empty
 pub record IsAtStart (s : State) : Type 0 where
   pub tables : ArePointTables s.definitions
   pub uncommitted : s.history ≡ []
   pub idle : s.transaction ≡ None
 
--- each piece that says a statement makes a table in scope, or sets the clock or the horizon
+-- each piece with a statement creates a table in scope, or sets the clock or the horizon
 abbrev pub ArePreparing : List Piece → Type 0
 ArePreparing pieces = (x : Piece) → In x pieces → (t : Statement) → HasSense x (Says t) → IsTrue (prepares t)
 
--- each piece that says a statement says one in scope, or one with a fault of its names, kinds, forms or literals: such
--- a statement is refused, and the machines are not given it
+-- each piece with a statement has one in scope, or one with a fault in its names, kinds, forms or literals. The latter
+-- is refused and is not given to the models.
 abbrev pub AreInScope : List TableDef → List Piece → Type 0
 AreInScope defs pieces =
     (x : Piece) → In x pieces → (t : Statement) → HasSense x (Says t) → (bind defs t).faults ≡ []
     → IsTrue (is_statement_in_scope defs t)
 
--- the law: statements that make tables or set the clock or the horizon keep this, and such a state is the beginning of
--- its tables, its clock, its horizon and its open readers
+-- the law: statements that create tables or set the clock or the horizon preserve `IsAtStart`. The resulting state is
+-- the beginning state for its tables, clock, horizon and open readers.
 abbrev pub StartsAreKept : Type 0
 StartsAreKept =
     (s : State) (pieces : List Piece) (replies : List Reply) (new : State) → IsAtStart s → ArePreparing pieces
@@ -97,7 +97,7 @@ StartsAreKept =
     → IsAtStart new
     × (new ≡ record (beginning new.definitions new.next new.horizon) { readers = new.readers })
 
--- the first pieces make tables; where those behind them are in scope, they run beside the machines of all points
+-- the first pieces create tables; if the later ones are in scope, they run in agreement with the models of all points
 pub record RunsAtPoints (s : State) (made others : List Piece) (replies : List Reply) (new : State) : Type 0 where
   pub first : List Reply
   pub later : List Reply
@@ -109,7 +109,7 @@ pub record RunsAtPoints (s : State) (made others : List Piece) (replies : List R
   pub beside : AreInScope start.definitions others → (after : PointMachines)
       × RunsBeside start.definitions start (machines_of start) others later new after
 
--- a run agrees with the machines of all points: however it is cut into pieces that make tables and those behind them
+-- a run agrees with the models of all points, however it is divided into pieces that create tables and later pieces
 abbrev pub AgreesAtPoints : State → List Piece → List Reply → State → Type 0
 AgreesAtPoints s pieces replies new =
     IsAtStart s → (made others : List Piece) → pieces ≡ made ++ others → ArePreparing made

@@ -1,4 +1,4 @@
--- For which tables and statements points can be told one by one.
+-- The tables and statements for which each point can be considered on its own.
 use Rattle.std.specs.Prelude.{◌≡◌, ◌<◌, ℕ, Bool, true, false, not, ◌&&◌, ◌||◌, IsTrue, nat_lt, List, [], ◌∷◌, length}
 use Rattle.std.specs.Prelude.{is_some}
 use Rattle.std.specs.List.{list_all}
@@ -13,7 +13,7 @@ use Rattle.tql_spec.specs.AtPoints.{parent_at}
 use Rattle.tql_spec.specs.Machine.{OpenReader, Read, CloseReader}
 use Rattle.tql_points.specs.Slice.{own_columns, payload_columns}
 
--- ---- what names no period
+-- ---- expressions that name no period
 
 -- whether a column belongs to no period
 abbrev pub is_payload : TableDef → ℕ → Bool
@@ -23,23 +23,23 @@ is_payload d i = has_number i (payload_columns d)
 abbrev pub is_free : TableDef → Expr → Bool
 is_free d e = not (uses_column (λ i. not (is_payload d i)) e)
 
--- whether a condition reads none
+-- whether a condition reads no column of a period
 abbrev pub is_free_cond : TableDef → Cond → Bool
 is_free_cond d c = not (has_expr (uses_column (λ i. not (is_payload d i))) c)
 
--- whether SET reads and sets none
+-- whether SET neither reads nor sets a column of a period
 abbrev pub is_free_work : TableDef → Work → Bool
 is_free_work d (Work.Set sets) = list_all (λ (a : Assignment). is_payload d a.column && is_free d a.value) sets
 is_free_work d Work.Remove = true
 
 -- ---- tables
 
--- columns of a table of so many, none twice
+-- distinct column numbers below n
 abbrev pub AreApart : ℕ → List ℕ → Type 0
 AreApart n [] = Unit {0}
 AreApart n (i ∷ is) = (i < n) × (has_number i is ≡ false) × AreApart n is
 
--- a table with an application period, whose keys and references go by it, and whose CHECKs name no period
+-- a table with an application period, with keys and references by that period, and with CHECKs that name no period
 pub record IsPointTable (defs : List TableDef) (d : TableDef) : Type 0 where
   pub period : IsTrue (is_some d.application)
   pub apart : AreApart (length d.columns) (own_columns d)
@@ -49,23 +49,23 @@ pub record IsPointTable (defs : List TableDef) (d : TableDef) : Type 0 where
       → IsTrue f.by_period × IsTrue (is_some (place_of f.parent defs)) × IsTrue (list_all (is_payload d) f.columns)
       × IsTrue (list_all (is_payload (parent_at defs (place_of f.parent defs))) f.parent_columns)
 
--- each table is so
+-- each table is in scope
 abbrev pub ArePointTables : List TableDef → Type 0
 ArePointTables defs = (t : ℕ) → t < length defs → IsPointTable defs (table_at defs t)
 
 -- ---- statements
 
--- whether an INSERT fills columns that are there and not generated
+-- whether an INSERT fills existing columns that are not generated
 abbrev pub are_filled : TableDef → List ℕ → Bool
 are_filled d columns = list_all (λ i. is_payload d i || has_number i (period_columns d.application)) columns
 
--- whether a change of the table names a period as its portion alone, or where INSERT lists the period's columns
+-- whether a change of the table names a period only as its portion; an INSERT may list the columns of the period
 abbrev pub is_change_of : TableDef → Change → Bool
 is_change_of d (InsertTuples t columns tuples) = are_filled d columns
 is_change_of d (InsertQuery t columns q) = false
 is_change_of d (Modify t portion work conds) = is_free_work d work && list_all (is_free_cond d) conds
 
--- whether a statement is a change so of a table that is there, or of a transaction, the clock or the horizon
+-- whether a statement is one of these changes of an existing table, or concerns transactions, the clock or the horizon
 abbrev pub is_in_scope : List TableDef → Bound → Bool
 is_in_scope defs (CreateTable d) = false
 is_in_scope defs (DropTable t) = false

@@ -1,4 +1,4 @@
--- What is written in scope is bound in scope.
+-- Statements that are written in scope are bound in scope.
 use Rattle.std.specs.Prelude.{◌≡◌, ◌&&◌, IsTrue, IsFalse, List, [], ◌∷◌, ◌++◌}
 use Rattle.tql_spec.specs.Definition.{TableDef}
 use Rattle.tql_spec.specs.Machine.{CreateTable}
@@ -8,19 +8,19 @@ use Rattle.tql_points.specs.Scope.{ArePointTables, is_in_scope}
 use Rattle.tql_points.specs.RefusalLaw.{gives_periods}
 use Rattle.tql_points.specs.StatementScope.{makes_point_table, is_query, is_statement_in_scope}
 
--- what a CREATE TABLE makes, beside tables that are there
+-- the table that a CREATE TABLE makes, in addition to the existing tables
 pub record MakesPointTable (defs : List TableDef) (t : Statement) : Type 0 where
   pub made : TableDef
   pub bound : (bind defs t).value ≡ CreateTable made
   pub tables : ArePointTables (defs ++ made ∷ [])
 
--- the law: a CREATE TABLE of this form without a fault makes a table in scope, and leaves the others in scope
+-- the law: a CREATE TABLE of this form without a fault creates a table in scope, and leaves the others in scope
 abbrev pub CreationsAreInScope : Type 0
 CreationsAreInScope =
     (defs : List TableDef) (t : Statement) → ArePointTables defs → IsTrue (makes_point_table t)
     → (bind defs t).faults ≡ [] → MakesPointTable defs t
 
--- the law: a statement of the scope without a fault that is no query is bound in scope, and gives periods that rise
+-- the law: a statement in scope, without a fault and not a query, is bound in scope and gives rising periods
 abbrev pub StatementsAreInScope : Type 0
 StatementsAreInScope =
     (defs : List TableDef) (t : Statement) → ArePointTables defs → IsTrue (is_statement_in_scope defs t)

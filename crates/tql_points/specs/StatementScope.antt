@@ -1,4 +1,4 @@
--- For which statements, as they are written, points can be told one by one.
+-- The syntax trees of statements for which each point can be considered on its own.
 use Rattle.std.specs.Prelude.{ℕ, Bool, true, false, not, ◌&&◌, ◌||◌, ◌==◌, List, [], ◌∷◌, ◌++◌, map, slice_index_or, ℤ}
 use Rattle.std.specs.Prelude.{int_lt, Option, Some, None, is_some, if◌then◌else◌}
 use Rattle.std.specs.List.{flat_map, list_all}
@@ -18,7 +18,7 @@ use Rattle.tql_points.specs.NamesAvoided.{sum_avoids, condition_avoids, filter_a
 
 -- ---- CREATE TABLE
 
--- the names of the periods and of their columns, as they are written
+-- the names of the periods and of their columns, as written
 abbrev pub written_names : List Element → List Name
 written_names es = period_names es ++ flat_map part_names (periods_of es)
 
@@ -28,22 +28,22 @@ is_point_constraint names (KeyTree primary n ns period) = is_some period
 is_point_constraint names (ForeignTree child n parent) = is_some child.period
 is_point_constraint names (CheckTree c) = condition_avoids names c
 
--- whether a statement makes a table with an application period, and with constraints of this form alone
+-- whether a statement creates a table with an application period and only constraints of this form
 abbrev pub makes_point_table : Statement → Bool
 makes_point_table (CreateTree n e es versioned) =
     not (is_empty (application_parts (e ∷ es)))
     && list_all (is_point_constraint (written_names (e ∷ es))) (constraints_of (e ∷ es))
 makes_point_table _ = false
 
--- whether a statement makes such a table, or sets the clock or the horizon
+-- whether a statement creates a table of this form, or sets the clock or the horizon
 abbrev pub prepares : Statement → Bool
 prepares (AtTree m) = true
 prepares (PruneTree m) = true
 prepares t = makes_point_table t
 
--- ---- the periods that INSERT gives
+-- ---- the periods of an INSERT
 
--- the point that an expression is written as: a literal of a day or a moment, in parentheses or without
+-- the point written by an expression: a literal of a date or a timestamp, possibly in parentheses
 abbrev mutual
   pub point_of_sum : Sum → Option ℤ
   point_of_sum (Terms (Factors (Unsigned p) NoFactor) NoTerm) = point_of_primary p
@@ -60,29 +60,29 @@ abbrev pub point_in : CellTree → Option ℤ
 point_in NullCell = None
 point_in (ValueCell e) = point_of_sum e
 
--- the cell that stands for a column, of cells for these columns
+-- the cell for a column, among cells for these columns; NULL if there is none
 abbrev pub cell_for : ℕ → List ℕ → List CellTree → CellTree
 cell_for i (c ∷ cs) (x ∷ xs) = if i == c then x else cell_for i cs xs
 cell_for i _ _ = NullCell
 
--- two points that are there, and rise
+-- both points are present, and the first is before the second
 abbrev pub do_rise : Option ℤ → Option ℤ → Bool
 do_rise (Some f) (Some g) = int_lt f g
 do_rise _ _ = false
 
--- whether cells for these columns give a period that rises
+-- whether cells for these columns give a rising period
 abbrev pub cells_rise : Option Application → List ℕ → List CellTree → Bool
 cells_rise None columns cells = true
 cells_rise (Some a) columns cells =
     do_rise (point_in (cell_for a.start columns cells)) (point_in (cell_for a.end columns cells))
 
--- whether a tuple does, where INSERT lists these names of columns
+-- whether a tuple gives a rising period, for an INSERT with these column names
 abbrev pub tuple_rises : TableDef → List Name → Tuple → Bool
 tuple_rises d names t = cells_rise d.application (insert_columns d names).value (t.first ∷ t.more)
 
 -- ---- UPDATE and DELETE
 
--- the names of a table's periods and of their columns
+-- the names of the periods of a table and of their columns
 abbrev pub own_names : TableDef → List Name
 own_names d = application_name d.application ++ map (λ i. slice_index_or (names_of d) i []) (own_columns d)
 
@@ -91,7 +91,7 @@ abbrev pub cell_avoids : List Name → CellTree → Bool
 cell_avoids names NullCell = true
 cell_avoids names (ValueCell e) = sum_avoids names e
 
--- whether SET sets and reads no column of these names
+-- whether a SET assignment neither sets nor reads a column with one of these names
 abbrev pub set_avoids : List Name → SetTree → Bool
 set_avoids names s = not (has_name s.column names) && cell_avoids names s.value
 
@@ -101,17 +101,17 @@ change_avoids sets c d = list_all (set_avoids (own_names d)) sets && filter_avoi
 
 -- ---- statements
 
--- whether the test holds of each table of this name
+-- whether the test is true of each table with this name
 abbrev pub of_table : Name → (TableDef → Bool) → List TableDef → Bool
 of_table n test defs = list_all (λ (d : TableDef). not (same_text n d.name) || test d) defs
 
--- whether a statement asks
+-- whether a statement is a query
 abbrev pub is_query : Statement → Bool
 is_query (QueryTree s keys) = true
 is_query _ = false
 
--- whether a statement is an INSERT of tuples, each with a period that rises, an UPDATE or a DELETE that names a period
--- as its portion alone, a statement of transactions, of the clock or of the horizon, or a query
+-- whether a statement is in scope: an INSERT of tuples with rising periods, or an UPDATE or a DELETE that names a
+-- period only as its portion. Transaction statements, AT, PRUNE HISTORY and queries are in scope too.
 abbrev pub is_statement_in_scope : List TableDef → Statement → Bool
 is_statement_in_scope defs (CreateTree n e es versioned) = false
 is_statement_in_scope defs (DropTree n) = false

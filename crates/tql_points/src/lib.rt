@@ -1,4 +1,5 @@
-//! The table engine's changes, point by point: whoever reasons day by day need not think of periods.
+//! The changes of a table, seen at each point of the application time. Users who reason day by day need not consider
+//! periods.
 #![tactic(auto)]
 
 ghost use Rattle.tql_points.specs.ChangeLaw.{SlicesAreThere, InsertionsReduce, ModificationsReduce, BesideStays};
@@ -9,8 +10,9 @@ ghost use Rattle.tql_points.specs.PointRun.{StartsAreKept, RunsAgreeAtPoints};
 ghost use Rattle.tql_points.specs.RunLaw.{RunsReduce, RunRefusalsReduce};
 ghost use Rattle.tql_points.specs.ScopeLaw.{CreationsAreInScope, StatementsAreInScope};
 
-/// A change of a table is, at each point, the change that the point is given: if it is not refused, neither is that
-/// one, and what that one leaves of the slice is the slice of what it leaves. Beside its portion it leaves the slice.
+/// At each point, a change of a table acts as the change given to that point. If the change of the table is not
+/// refused, neither is that of the point. The rows that the change of the point leaves are the slice of the rows that
+/// the change of the table leaves. Outside its portion, the change leaves the slice as it was.
 pub fn changes_at_each_point()
     ensures there { SlicesAreThere }
     ensures insertions { InsertionsReduce }
@@ -18,44 +20,45 @@ pub fn changes_at_each_point()
     ensures beside { BesideStays }
 {}
 
-/// A change of a table is refused exactly where the change that some point is given is refused, with the first of their
-/// refusals: a value out of range (E30), NULL (E32) or a CHECK (E34).
+/// A change of a table is refused exactly if the change given to some point is refused, with the first of the refusals
+/// of the points: a value out of range (E30), NULL (E32) or a CHECK (E34).
 pub fn changes_are_refused_at_points()
     ensures modifications { ModificationRefusals }
     ensures insertions { InsertionRefusals }
 {}
 
-/// At each point the machine of the point takes all statements that were not refused, and its answers, now and as of
-/// each moment, are the slices of the answers.
+/// At each point, the model of the point accepts all statements that were not refused. Its answers, now and as of each
+/// moment, are the slices of the answers.
 pub fn snapshots_reduce()
     ensures { SnapshotsReduce }
 {}
 
-/// So it is in whole runs of pieces of a script, whatever is answered out of memory: each point is given the bound
-/// forms of the statements that were not refused.
-/// After such a run, of which each INSERT gives periods that rise, a change is refused as some point refuses it first.
+/// The same holds for whole runs of the pieces of a script, even if some answers are out of memory. Each point is given
+/// the bound forms of the statements that were not refused.
+/// If each INSERT of the run gives rising periods, a later change is refused with the first refusal of the points.
 pub fn runs_reduce()
     ensures answers { RunsReduce }
     ensures refusals { RunRefusalsReduce }
 {}
 
-/// A change is refused exactly where the machine of some point refuses it, and with the first of their refusals.
+/// A change is refused exactly if the model of some point refuses it, with the first of the refusals of the points.
 pub fn refusals_reduce()
     ensures { RefusalsReduce }
 {}
 
-/// What is written in scope is bound in scope: a CREATE TABLE with an application period, keys WITHOUT OVERLAPS,
-/// references with PERIOD, and CHECKs that name no period makes a table in scope; an INSERT of tuples, an UPDATE or a
-/// DELETE that names a period as its portion alone is bound to a change in scope.
+/// Statements that are written in scope are bound in scope. A CREATE TABLE with an application period, keys WITHOUT
+/// OVERLAPS, references with PERIOD, and CHECKs that name no period makes a table in scope. An INSERT of tuples whose
+/// periods are rising literals is bound to a change in scope. So is an UPDATE or a DELETE that names a period only as
+/// its portion.
 pub fn written_in_scope()
     ensures creations { CreationsAreInScope }
     ensures statements { StatementsAreInScope }
 {}
 
-/// Every run over statements that make tables, and then over statements in scope, agrees with the machines of all
-/// points: what is done is done by each; what is refused, though its names, kinds, forms and literals have no fault and
-/// there is memory, is refused as the first of them that refuses it; and behind each answer the slices, now and as of
-/// each moment, are what they answer.
+/// Every run of statements that create tables, followed by statements in scope, agrees with the models of all points.
+/// If a statement is executed, each point executes it. A statement other than a query that is refused for its effect,
+/// and not for its text, names, kinds, forms, literals or memory, has the first refusal of the points. After each
+/// answer the slices, now and as of each moment, are the answers of the points.
 pub fn runs_agree_at_points()
     ensures starts { StartsAreKept }
     ensures runs { RunsAgreeAtPoints }

@@ -1,10 +1,10 @@
--- The text of a moment, by its parts.
+-- The text of a timestamp, in terms of its parts.
 use Rattle.std.proofs.Common.{◌≡◌, ℕ, ◌/◌, ◌%◌, List, ◌∷◌, ◌++◌, ◌∙◌, ap, subst}
 use Rattle.std.specs.Prelude.{ℤ}
 use Rattle.tql_spec.specs.Calendar.{Parts, moment_day, moment_micros}
 use Rattle.tql_spec.specs.Text.{padded, date_text, fraction_text, time_text}
 
--- a byte, hours, minutes and seconds
+-- a byte, then hours, minutes and seconds
 abbrev pub clock_text : ℕ → ℕ → ℕ → ℕ → List ℕ
 clock_text b h m s = b ∷ padded 2 h ++ 58 ∷ padded 2 m ++ 58 ∷ padded 2 s
 
@@ -14,7 +14,7 @@ clock_same : (b : ℕ) {h m s hours minutes seconds : ℕ} → h ≡ hours → m
 clock_same b {h} {m} {s} {hours} {minutes} {seconds} e f d = ap (λ (k : ℕ). clock_text b k m s) e
     ∙ ap (λ (k : ℕ). clock_text b hours k s) f ∙ ap (λ (k : ℕ). clock_text b hours minutes k) d
 
--- the text of a moment is that of its parts
+-- the text of a timestamp is that of its parts
 pub moment_text : (b : ℕ) {given moment : ℤ} {date : Parts} {h m s micros : ℕ} → given ≡ moment
     → date ≡ moment_day given → h ≡ moment_micros given / 1000000 / 3600
     → m ≡ moment_micros given / 1000000 / 60 % 60 → s ≡ moment_micros given / 1000000 % 60

@@ -6,7 +6,7 @@ use Rattle.std.proofs.lemmas.Bool.{cases_lt}
 use Rattle.std.proofs.lemmas.Fmt.{decimal_digit, decimal_step}
 use Rattle.tql_spec.specs.Text.{padded}
 
--- a list of numbers at a length given otherwise
+-- equal counts of leading zeros
 zeros_at : (k m : ℕ) (ds : List ℕ) → k ≡ m → replicate k 48 ++ ds ≡ replicate m 48 ++ ds
 zeros_at k m ds e = ap (λ (j : ℕ). replicate j 48 ++ ds) e
 
@@ -14,21 +14,21 @@ zeros_at k m ds e = ap (λ (j : ℕ). replicate j 48 ++ ds) e
 pub padded_digit : (n : ℕ) → n < 10 → padded 1 n ≡ (48 + n) ∷ []
 padded_digit n h = rw (decimal_digit n h) refl
 
--- zero is all zeros
+-- zero padded to a width is all zeros
 padded_zero : (k : ℕ) → 1 ≤ k → padded k 0 ≡ replicate k 48
 padded_zero k h =
     let zero_digit : decimal 0 ≡ 48 ∷ [] = decimal_digit 0 (omega arith) in
     rw zero_digit (zeros_at (k - 1) (k - 1) (48 ∷ []) refl ∙ replicate-append-replicate (k - 1) 1 48
     ∙ ap (λ (j : ℕ). replicate j 48) (omega arith))
 
--- one more digit, of a number of one
+-- one more digit, for a number of one digit
 padded_small : (k j n : ℕ) → 1 ≤ k → j ≡ k + 1 → n < 10 → padded j n ≡ padded k 0 ++ (48 + n) ∷ []
 padded_small k j n some next h =
     let e : padded j n ≡ replicate k 48 ++ (48 + n) ∷ [] =
     rw (decimal_digit n h) (zeros_at (j - 1) k ((48 + n) ∷ []) (omega arith)) in
     e ∙ sym (ap (λ (l : List ℕ). l ++ (48 + n) ∷ []) (padded_zero k some))
 
--- one more digit, of a number of more
+-- one more digit, for a number of several digits
 padded_large : (k j n : ℕ) → j ≡ k + 1 → 10 ≤ n → n < 2 ^ 64 → padded j n ≡ padded k (n / 10) ++ (48 + n % 10) ∷ []
 padded_large k j n next h b =
     let before : List ℕ = decimal (n / 10) in

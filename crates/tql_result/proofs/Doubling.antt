@@ -1,4 +1,4 @@
--- A text with each quote in it twice, cut at its first quote.
+-- A text with each quote doubled, split at its first quote.
 use Rattle.std.proofs.Common.{◌≡◌, ℕ, ◌+◌, ◌-◌, ◌<◌, ◌≤◌, suc, true, false, List, [], ◌∷◌, ◌++◌, refl, sym, ◌∙◌, ap}
 use Rattle.std.proofs.Common.{take, drop, length, get_or, arith, inl, inr}
 use Rattle.std.proofs.lemmas.Bool.{eqb-true, eq-eqb, ltb-false, cases_Bool}
@@ -9,7 +9,7 @@ use Rattle.std.specs.Prelude.{◌==◌, position, Some, None, nat_lt}
 use Rattle.std.specs.List.{position_or_len}
 use Rattle.tql_spec.specs.Text.{doubled}
 
--- a text with no quote stays
+-- a text without quotes is unchanged
 doubled_clear : (q : ℕ) (xs : List ℕ) → ((k : ℕ) → k < length xs → (get_or xs k 0 == q) ≡ false) → doubled q xs ≡ xs
 doubled_clear q [] h = refl
 doubled_clear q (x ∷ xs) h =
@@ -19,7 +19,7 @@ doubled_clear q (x ∷ xs) h =
 doubled_quote : (q x : ℕ) (xs : List ℕ) → (x == q) ≡ true → doubled q (x ∷ xs) ≡ x ∷ q ∷ doubled q xs
 doubled_quote q x xs e = let same : x ≡ q = eqb-true x q e in rw e (ap (λ (y : ℕ). x ∷ y ∷ doubled q xs) same)
 
--- a text where the first place is behind its end
+-- a text is unchanged if the position of the first quote is past its end
 doubled_past : (q : ℕ) (xs : List ℕ) → length xs ≤ position_or_len (λ b. b == q) xs → doubled q xs ≡ xs
 doubled_past q [] h = refl
 doubled_past q (x ∷ xs) h = elim (cases_Bool (x == q)) [
@@ -27,14 +27,14 @@ doubled_past q (x ∷ xs) h = elim (cases_Bool (x == q)) [
   | inr other ↦ let more = rw other at h in rw other (ap (λ l. x ∷ l) (doubled_past q xs (omega (arith, more))))
 ]
 
--- a text with no place of a quote
+-- a text is unchanged if there is no position of a quote
 pub doubled_without : (q : ℕ) (xs : List ℕ) → position (λ b. b == q) xs ≡ None → doubled q xs ≡ xs
 doubled_without q xs e = elim (cases_Bool (nat_lt (position_or_len (λ b. b == q) xs) (length xs))) [
   | inl below ↦ let found = rw below at e in absurd (cc)
   | inr above ↦ doubled_past q xs (ltb-false _ _ above)
 ]
 
--- a text cut at its first quote
+-- a text split at its first quote
 pub doubled_at : (q : ℕ) (xs : List ℕ) (i : ℕ) → position (λ b. b == q) xs ≡ Some i
     → doubled q xs ≡ take i xs ++ (q ∷ q ∷ doubled q (drop (i + 1) xs))
 doubled_at q xs i e =
@@ -52,7 +52,7 @@ doubled_at q xs i e =
     ∙ ap (λ l. l ++ doubled q (q ∷ drop (i + 1) xs)) clear
     ∙ ap (λ l. take i xs ++ l) (doubled_quote q q (drop (i + 1) xs) (eq-eqb q q refl))
 
--- the same of the parts before and from that place on
+-- the same, given the parts before and from that position on
 pub doubled_parts : (q : ℕ) (xs : List ℕ) (i : ℕ) (front back : List ℕ) → front ≡ take i xs → back ≡ drop i xs
     → position (λ b. b == q) xs ≡ Some i
     → doubled q xs ≡ front ++ (q ∷ q ∷ doubled q (take (length back - 1) (drop 1 back)))

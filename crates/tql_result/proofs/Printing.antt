@@ -1,4 +1,4 @@
--- Which tables can be printed, by their values, and the parts of a table's text.
+-- Printable tables in terms of their values, and the parts of the text of a table.
 use Rattle.std.proofs.Common.{◌≡◌, ℕ, List, ◌∷◌, ◌++◌, sym, ◌∙◌, ap, map, length, string_bytes}
 use Rattle.std.proofs.lemmas.List.{length-map}
 use Rattle.std.proofs.lemmas.List.Elements.{All-map, All-weaker, All-same}
@@ -15,7 +15,7 @@ use Rattle.tql_result.proofs.Joining.{all_unmapped}
 abbrev pub ValuesPrint : {Z : Type 0} → List (Vec Value Z) → Type 0
 ValuesPrint rows = All (λ r. All (λ v. IsPrintable (datum_of_value v)) r.items) rows
 
--- rows whose data can be printed
+-- if the data of the rows can be printed, so can their values
 pub values_print : {Z : Type 0} (given rows : List (Vec Value Z)) → given ≡ rows
     → ArePrintable (map (λ r. row_of r.items) rows) → ValuesPrint given
 values_print given rows same all =
@@ -24,7 +24,7 @@ values_print given rows same all =
     (λ r p. all_unmapped IsPrintable datum_of_value r.items p) rows
     (all_unmapped (All IsPrintable) (λ r. row_of r.items) rows all))
 
--- rows whose values can be printed
+-- if the values of the rows can be printed, so can their data
 pub data_print : {Z : Type 0} (given rows : List (Vec Value Z)) → given ≡ rows → ValuesPrint given
     → ArePrintable (map (λ r. row_of r.items) rows)
 data_print given rows same all =
@@ -45,7 +45,7 @@ pub rows_are : {Z : Type 0} (given rows : List (Vec Value Z)) → given ≡ rows
 rows_are given rows same = ap (flat_map (λ r. row_text (row_of r.items))) same
     ∙ sym (flat_map-map row_text (λ r. row_of r.items) rows)
 
--- the line that counts the rows
+-- the line with the number of rows
 pub count_is : {Z : Type 0} (n : ℕ) (given rows : List (Vec Value Z)) → n ≡ length given → given ≡ rows
     → line (40 ∷ decimal n ++ codes " rows)") ≡ line
     (40 ∷ decimal (length (map (λ r. row_of r.items) rows)) ++ codes " rows)")

@@ -1,4 +1,4 @@
-//! What a run answers to a piece of a script, and its text.
+//! The answer of a run to a piece of a script, and its text.
 ghost use Rattle.tql_spec.specs.Text.{answer_text};
 ghost use Rattle.tql_result.specs.Devices.{Pushes};
 ghost use Rattle.tql_result.specs.Replies.{answer_of, IsPrintableAnswer};
@@ -9,11 +9,11 @@ use crate::print::write_reply;
 use crate::reply::Reply;
 use crate::sink::Sink;
 
-/// What a run answers to a piece of a script.
+/// The answer of a run to a piece of a script.
 pub enum Answer {
-    /// The reply to a statement that is run, or the refusal of the piece.
+    /// The reply to a statement that was run, or the refusal of the piece.
     Replied(Reply),
-    /// A statement that is checked, and has no fault.
+    /// A statement that was checked and has no fault.
     Accepted,
 }
 
@@ -26,8 +26,8 @@ impl Drop for Answer {
     }
 }
 
-/// Pushes an answer as it is printed: a reply as `write_reply` does, or `OK`. It takes no memory. After an error a
-/// beginning of the text was pushed.
+/// Pushes an answer as printed: a reply as `write_reply` does, or `OK`. Allocates no memory. After an error a prefix of
+/// the text has been pushed.
 pub fn write_answer<S: Sink>(sink: &mut S, answer: &Answer) -> Result<(), DeviceFault>
     requires { IsPrintableAnswer (answer_of answer.now) }
     ensures { Pushes (answer_text (answer_of answer.now)) result

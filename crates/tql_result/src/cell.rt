@@ -1,4 +1,4 @@
-//! The text of a value, and which values have one.
+//! The text of a value, and which values can be printed.
 ghost use Rattle.std.specs.Prelude.{◌↔◌, IsTrue};
 ghost use Rattle.tql_spec.specs.Text.{cell_text};
 ghost use Rattle.tql_value.specs.Views.{datum_of_view};
@@ -14,8 +14,7 @@ use crate::sink::Sink;
 use tql_value::calendar::{is_day, is_moment};
 use tql_value::value::View;
 
-/// Whether a value has a text, which `write_cell` asks for: any but a day or a moment that lies outside
-/// the years 1 to 9999.
+/// Whether a value can be printed, as `write_cell` requires: a date or a timestamp must be in the years 1 to 9999.
 pub fn is_printable(cell: View<'_>) -> bool
     ensures { IsTrue result ↔ IsPrintable (datum_of_view cell.entry) }
 {
@@ -26,10 +25,9 @@ pub fn is_printable(cell: View<'_>) -> bool
     }
 }
 
-/// Pushes a value as it is printed: `NULL`, a number in decimal, a text in `'` with each `'` doubled, a
-/// day as `YYYY-MM-DD`, a moment as `YYYY-MM-DD HH:MM:SS` with six digits behind a point where its
-/// microseconds are not zero (this project's choice). It takes no memory. After an error a beginning of
-/// the text was pushed.
+/// Pushes a value as printed: `NULL`, a number in decimal, or a text in `'` with each `'` doubled. A date is
+/// `YYYY-MM-DD`. A timestamp is `YYYY-MM-DD HH:MM:SS`, followed by a point and six digits unless its microseconds are
+/// zero (a choice of this project). Allocates no memory. After an error a prefix of the text has been pushed.
 pub fn write_cell<S: Sink>(sink: &mut S, cell: View<'_>) -> Result<(), DeviceFault>
     requires { IsPrintable (datum_of_view cell) }
     ensures { Pushes (cell_text (datum_of_view cell.entry)) result

@@ -1,7 +1,7 @@
 //! The failure of a device.
 use thiserror::Error;
 
-/// A device failed: what it was asked for is not done, or not done whole.
+/// A device failed: the operation was not carried out, or only in part.
 #[derive(Clone, Copy, PartialEq, Eq, Debug, Error)]
 #[error("the device failed")]
 pub struct DeviceFault;

@@ -1,4 +1,4 @@
-//! The text of headings: bare where it can be, or in quotes, parted by bars.
+//! The text of headings: bare where possible, otherwise in quotes, separated by bars.
 ghost use Rattle.std.specs.Prelude.{◌≡◌, ◌||◌, ◌∷◌, ◌++◌, map, string_bytes};
 ghost use Rattle.std.specs.List.{flat_map, join_with_byte, list_all};
 ghost use Rattle.tql_spec.specs.Calendar.{is_digit as digit_of};
@@ -11,28 +11,28 @@ use crate::quoted::push_quoted;
 use crate::sink::Sink;
 use tql_memory::Memory;
 
-/// Whether it is a letter A to Z or `_`.
+/// Whether the byte is a letter A to Z or `_`.
 fn is_upper(byte: u8) -> bool
     ensures { result ≡ upper_of byte }
 {
     byte.is_ascii_uppercase() || byte == b'_'
 }
 
-/// Whether it is a letter A to Z, `_` or a digit.
+/// Whether the byte is a letter A to Z, `_` or a digit.
 fn is_upper_or_digit(byte: u8) -> bool
     ensures { result ≡ (upper_of byte || digit_of byte) }
 {
     is_upper(byte) || byte.is_ascii_digit()
 }
 
-/// Whether all are letters A to Z, `_` or digits.
+/// Whether all bytes are letters A to Z, `_` or digits.
 fn are_upper_or_digits(bytes: &[u8]) -> bool
     ensures { result ≡ list_all (λ b. upper_of b || digit_of b) bytes.now }
 {
     bytes.iter().all(|byte| is_upper_or_digit(*byte))
 }
 
-/// Whether a heading is printed without quotes: a letter A to Z or `_`, and then such letters and digits.
+/// Whether a heading is printed without quotes: a letter A to Z or `_`, followed by such letters and digits.
 fn is_bare(name: &[u8]) -> bool
     ensures { result ≡ bare_of name.now }
 {
@@ -42,7 +42,7 @@ fn is_bare(name: &[u8]) -> bool
     }
 }
 
-/// Pushes a heading: bare, or in quotes.
+/// Pushes a heading, bare or in quotes.
 fn push_heading<S: Sink>(sink: &mut S, name: &str) -> Result<(), DeviceFault>
     ensures { Pushes (heading_text name.now) result
         (S.written sink.old) (S.written sink.new) (S.failures sink.old) (S.failures sink.new) }
@@ -54,7 +54,7 @@ fn push_heading<S: Sink>(sink: &mut S, name: &str) -> Result<(), DeviceFault>
     }
 }
 
-/// Pushes a heading that is not the first, behind the bar that parts it from the one before.
+/// Pushes a heading that is not the first, after a bar as separator.
 fn push_next_heading<S: Sink>(sink: &mut S, name: &str) -> Result<(), DeviceFault>
     ensures { Pushes (124 ∷ heading_text name.now) result
         (S.written sink.old) (S.written sink.new) (S.failures sink.old) (S.failures sink.new) }
@@ -63,7 +63,7 @@ fn push_next_heading<S: Sink>(sink: &mut S, name: &str) -> Result<(), DeviceFaul
     push_heading(sink, name)
 }
 
-/// Pushes headings, each behind a bar.
+/// Pushes headings, each after a bar.
 fn push_next_headings<S: Sink>(sink: &mut S, names: &[String<Memory>]) -> Result<(), DeviceFault>
     ensures { Pushes (flat_map (λ n. 124 ∷ heading_text (string_bytes n)) names.now) result
         (S.written sink.old) (S.written sink.new) (S.failures sink.old) (S.failures sink.new) }
@@ -74,7 +74,7 @@ fn push_next_headings<S: Sink>(sink: &mut S, names: &[String<Memory>]) -> Result
     Ok(())
 }
 
-/// Pushes headings, parted by bars.
+/// Pushes headings, separated by bars.
 fn push_joined<S: Sink>(sink: &mut S, names: &[String<Memory>]) -> Result<(), DeviceFault>
     ensures { Pushes (join_with_byte 124 (map heading_text (map string_bytes names.now))) result
         (S.written sink.old) (S.written sink.new) (S.failures sink.old) (S.failures sink.new) }

@@ -9,14 +9,14 @@ use crate::pieces::push_all;
 use crate::sink::Sink;
 use itoa::Buffer;
 
-/// The last digit of a number.
+/// Returns the last digit of a number.
 fn digit(n: u32) -> u8
     ensures { result ≡ 48 + n % 10 }
 {
     b'0' + (n % 10) as u8
 }
 
-/// A date as it is printed, of a year of four digits, and a month and a day of two.
+/// Returns a date as printed: a year of four digits, and a month and a day of two digits each.
 #[tactic(auto, using(crate::proofs::Digits::padded_four, crate::proofs::Digits::padded_two))]
 pub fn date_bytes(year: u16, month: u8, day: u8) -> [u8; 10]
     requires years { year < 10000 }
@@ -41,7 +41,7 @@ pub fn date_bytes(year: u16, month: u8, day: u8) -> [u8; 10]
     ]
 }
 
-/// A byte and the time of day as it is printed without its fraction, each number of two digits.
+/// Returns the byte `front` and the time of day without its fraction, each number with two digits.
 #[tactic(auto, using(crate::proofs::Digits::padded_two))]
 pub fn clock_bytes(front: u8, hour: u8, minute: u8, second: u8) -> [u8; 9]
     requires hours { hour < 100 }
@@ -65,7 +65,7 @@ pub fn clock_bytes(front: u8, hour: u8, minute: u8, second: u8) -> [u8; 9]
     ]
 }
 
-/// A point and the microseconds of a second, of six digits.
+/// Returns a point and the microseconds of a second, as six digits.
 #[tactic(auto, using(crate::proofs::Digits::padded_six))]
 pub fn fraction_bytes(micros: u32) -> [u8; 7]
     requires { micros < 1000000 }
@@ -91,7 +91,7 @@ pub fn push_decimal<S: Sink>(sink: &mut S, n: u64) -> Result<(), DeviceFault>
     push_all(sink, buffer.format(n).as_bytes())
 }
 
-/// Pushes a whole number in decimal digits, with `-` before a negative one.
+/// Pushes an integer in decimal digits, with `-` before a negative one.
 pub fn push_int<S: Sink>(sink: &mut S, n: i64) -> Result<(), DeviceFault>
     ensures { Pushes (signed_decimal n) result
         (S.written sink.old) (S.written sink.new) (S.failures sink.old) (S.failures sink.new) }

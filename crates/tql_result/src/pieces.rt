@@ -1,11 +1,11 @@
-//! Bytes pushed whole, in as many pushes as a sink asks for.
+//! Pushes all of some bytes, in as many pushes as the sink needs.
 ghost use Rattle.tql_result.specs.Devices.{Pushes};
 
 use crate::device::DeviceFault;
 use crate::sink::Sink;
 
-/// Pushes all bytes, in as many pushes as the sink asks for. A push that takes none of some bytes is a
-/// failure; a beginning of the bytes was pushed then.
+/// Pushes all bytes, in as many pushes as the sink needs. A push that takes none of the remaining bytes is a failure.
+/// On failure, a prefix of the bytes has been pushed.
 pub fn push_all<S: Sink>(sink: &mut S, bytes: &[u8]) -> Result<(), DeviceFault>
     ensures { Pushes bytes.now result
         (S.written sink.old) (S.written sink.new) (S.failures sink.old) (S.failures sink.new) }

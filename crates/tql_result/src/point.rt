@@ -1,4 +1,4 @@
-//! The text of days and moments.
+//! The text of dates and timestamps.
 ghost use Rattle.std.specs.Prelude.{◌<◌, ◌∷◌, ◌++◌};
 ghost use Rattle.tql_spec.specs.Calendar.{moment_day, moment_micros};
 ghost use Rattle.tql_spec.specs.Datum.{Day};
@@ -12,7 +12,7 @@ use crate::pieces::push_all;
 use crate::sink::Sink;
 use tql_value::calendar::{day_parts, moment_parts};
 
-/// Pushes a day, given in days since 1970-01-01, as `YYYY-MM-DD`.
+/// Pushes a date, given in days since 1970-01-01, as `YYYY-MM-DD`.
 pub fn push_day<S: Sink>(sink: &mut S, day: i64) -> Result<(), DeviceFault>
     requires { IsDay day }
     ensures { Pushes (cell_text (Day day)) result
@@ -22,7 +22,7 @@ pub fn push_day<S: Sink>(sink: &mut S, day: i64) -> Result<(), DeviceFault>
     push_all(sink, &date_bytes(parts.year, parts.month, parts.day))
 }
 
-/// Pushes a point and six digits, where the microseconds of the second are not zero.
+/// Pushes a point and six digits, unless the microseconds of the second are zero.
 fn push_fraction<S: Sink>(sink: &mut S, micros: u32) -> Result<(), DeviceFault>
     requires { micros < 1000000 }
     ensures { Pushes (fraction_text micros) result
@@ -35,8 +35,8 @@ fn push_fraction<S: Sink>(sink: &mut S, micros: u32) -> Result<(), DeviceFault>
     }
 }
 
-/// Pushes a moment, given in microseconds since 1970-01-01 00:00:00, as `YYYY-MM-DD`, such a byte, and `HH:MM:SS` with
-/// its fraction, if it has one.
+/// Pushes a timestamp, given in microseconds since 1970-01-01 00:00:00: `YYYY-MM-DD`, the byte `parter`, `HH:MM:SS`,
+/// and the fraction of the second unless it is zero.
 pub fn push_moment<S: Sink>(sink: &mut S, parter: u8, moment: i64) -> Result<(), DeviceFault>
     requires { IsMoment moment }
     ensures { Pushes (date_text (moment_day moment) ++ parter ∷ time_text (moment_micros moment)) result

@@ -1,4 +1,4 @@
-//! The text of a reply, and which replies have one.
+//! The text of a reply, and which replies can be printed.
 ghost use Rattle.std.specs.Prelude.{◌++◌, ◌↔◌, IsTrue, codes};
 ghost use Rattle.tql_spec.specs.Text.{verb_text, count_text, line, reply_text, wording};
 ghost use Rattle.tql_value.specs.Refusals.{refusal_of};
@@ -13,7 +13,7 @@ use crate::sink::Sink;
 use crate::table::{is_printable_table, write_table};
 use tql_value::refusal::Refusal;
 
-/// Pushes a blank and the count, where there is one.
+/// Pushes a blank and the count, if there is a count.
 fn push_count<S: Sink>(sink: &mut S, count: Option<u64>) -> Result<(), DeviceFault>
     ensures { Pushes (count_text count) result
         (S.written sink.old) (S.written sink.new) (S.failures sink.old) (S.failures sink.new) }
@@ -27,7 +27,7 @@ fn push_count<S: Sink>(sink: &mut S, count: Option<u64>) -> Result<(), DeviceFau
     }
 }
 
-/// Pushes the line of a reply that something is done.
+/// Pushes the reply line of a statement that was executed.
 fn push_done<S: Sink>(sink: &mut S, verb: Verb, count: Option<u64>) -> Result<(), DeviceFault>
     ensures { Pushes (line (verb_text (plain_verb verb) ++ count_text count)) result
         (S.written sink.old) (S.written sink.new) (S.failures sink.old) (S.failures sink.new) }
@@ -47,8 +47,7 @@ fn push_refusal<S: Sink>(sink: &mut S, refusal: Refusal) -> Result<(), DeviceFau
     push_all(sink, b"\n")
 }
 
-/// Whether a reply has a text, which `write_reply` asks for: no day and no moment in it lies outside the
-/// years 1 to 9999.
+/// Whether a reply can be printed, as `write_reply` requires: all its dates and timestamps are in the years 1 to 9999.
 pub fn is_printable_reply(reply: &Reply) -> bool
     ensures { IsTrue result ↔ IsPrintableReply (reply_of reply.now) }
 {
@@ -58,9 +57,9 @@ pub fn is_printable_reply(reply: &Reply) -> bool
     }
 }
 
-/// Pushes a reply as it is printed: its words and its count, a table, or `REFUSED ` and the refusal's
-/// number and text, each line ended by one line feed (this project's choice). It takes no memory.
-/// After an error a beginning of the text was pushed.
+/// Pushes a reply as printed: its words and its count, a table, or `REFUSED ` with the number and text of the refusal.
+/// Each line ends with one line feed (a choice of this project). Allocates no memory. After an error a prefix of the
+/// text has been pushed.
 pub fn write_reply<S: Sink>(sink: &mut S, reply: &Reply) -> Result<(), DeviceFault>
     requires { IsPrintableReply (reply_of reply.now) }
     ensures { Pushes (reply_text (reply_of reply.now)) result

@@ -1,4 +1,4 @@
-//! Texts in quotes, each quote in them doubled.
+//! Texts in quotes, with each quote in them doubled.
 ghost use Rattle.std.specs.Prelude.{◌≡◌, ◌<◌, ◌==◌, ◌∷◌, ◌++◌, IfSome, MatchOption, length, position};
 ghost use Rattle.tql_spec.specs.Text.{doubled, quoted};
 ghost use Rattle.tql_result.specs.Devices.{Pushes};
@@ -7,7 +7,7 @@ use crate::device::DeviceFault;
 use crate::pieces::push_all;
 use crate::sink::Sink;
 
-/// The place of the first such byte, if there is one.
+/// Returns the index of the first `quote`, if any.
 fn first_place(quote: u8, text: &[u8]) -> Option<usize>
     ensures place { result ≡ position (λ b. b == quote) text.now }
     ensures within { IfSome result (λ i. i < length text.now) }
@@ -15,7 +15,7 @@ fn first_place(quote: u8, text: &[u8]) -> Option<usize>
     text.iter().position(|b| *b == quote)
 }
 
-/// What stands before the first quote, and what behind it.
+/// Returns the parts before and after the first quote, if any.
 fn parts_at_quote(quote: u8, text: &[u8]) -> Option<(&[u8], &[u8])>
     ensures parts { MatchOption result (doubled quote text.now ≡ text.now)
         (λ p. doubled quote text.now ≡ p.0.now ++ (quote ∷ quote ∷ doubled quote p.1.now)) }
@@ -26,7 +26,7 @@ fn parts_at_quote(quote: u8, text: &[u8]) -> Option<(&[u8], &[u8])>
     Some((front, &back[1..]))
 }
 
-/// Pushes a text with each quote in it twice.
+/// Pushes a text with each quote doubled.
 fn push_doubled<S: Sink>(sink: &mut S, quote: u8, text: &[u8]) -> Result<(), DeviceFault>
     ensures { Pushes (doubled quote text.now) result
         (S.written sink.old) (S.written sink.new) (S.failures sink.old) (S.failures sink.new) }
@@ -40,7 +40,7 @@ fn push_doubled<S: Sink>(sink: &mut S, quote: u8, text: &[u8]) -> Result<(), Dev
     push_all(sink, rest)
 }
 
-/// Pushes a text in quotes, each quote in it doubled.
+/// Pushes a text in quotes, with each quote in it doubled.
 pub fn push_quoted<S: Sink>(sink: &mut S, quote: u8, text: &[u8]) -> Result<(), DeviceFault>
     ensures { Pushes (quoted quote text.now) result
         (S.written sink.old) (S.written sink.new) (S.failures sink.old) (S.failures sink.new) }

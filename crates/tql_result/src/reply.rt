@@ -1,8 +1,8 @@
-//! What a statement is answered: done, a table, or a refusal.
+//! The reply to a statement: done, a table, or a refusal.
 use tql_value::refusal::Refusal;
 use tql_value::value::ResultTable;
 
-/// What a statement did: the words that its reply begins with.
+/// What a statement did: the words at the beginning of its reply.
 #[derive(Clone, Copy, PartialEq, Eq, Debug)]
 pub enum Verb {
     /// `CREATE TABLE`
@@ -31,13 +31,13 @@ pub enum Verb {
     ClosedReader,
 }
 
-/// What a statement is answered.
+/// The reply to a statement.
 pub enum Reply {
-    /// It is done, with the count of rows where it counts them.
+    /// The statement was executed. The number of rows is given for statements that count rows.
     Done(Verb, Option<u64>),
-    /// The rows that a query asked for.
+    /// The result table of a query.
     Table(ResultTable),
-    /// It is refused, and nothing has changed.
+    /// The statement was refused, and nothing has changed.
     Refused(Refusal),
 }
 
@@ -55,7 +55,7 @@ impl Verb {
     ghost use Rattle.tql_spec.specs.Text.{verb_text};
     ghost use Rattle.tql_result.specs.Replies.{plain_verb};
 
-    /// The words, as they are printed.
+    /// Returns the words as printed.
     pub fn text(self) -> &'static str
         ensures { result.now ≡ verb_text (plain_verb self) }
     {

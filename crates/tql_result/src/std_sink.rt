@@ -1,4 +1,4 @@
-//! A sink over a writer of the standard library.
+//! A sink over a standard library writer.
 ghost use Rattle.std.specs.Prelude.{◌≡◌, IsFalse, true};
 ghost use Rattle.tql_result.specs.Devices.{HasFailed};
 
@@ -6,8 +6,8 @@ use crate::device::DeviceFault;
 use crate::sink::Sink;
 use std::io::Write;
 
-/// A sink over a writer of the standard library. A write that fails, or takes none of some bytes, and a
-/// flush that fails are counted. It is flushed once its writer has answered a flush well, until the next push.
+/// A sink over a standard library writer. It counts failed writes, non-empty writes that take no bytes, and failed
+/// flushes. It counts as flushed from a successful flush of its writer until the next push.
 #[derive(Drop)]
 pub struct StdSink<W> {
     writer: W,
@@ -16,7 +16,8 @@ pub struct StdSink<W> {
 }
 
 impl<W: Write + Drop> StdSink<W> {
-    /// A sink that has counted no failure. It is not flushed, since the writer may keep back bytes from before.
+    /// Returns a sink that has counted no failure. It does not count as flushed, since the writer may have buffered
+    /// bytes.
     pub fn new(writer: W) -> StdSink<W>
         ensures written { ⟦<StdSink<W> as Sink>⟧.written result ≡ W.contents writer }
         ensures failures { ⟦<StdSink<W> as Sink>⟧.failures result ≡ 0 }
@@ -29,7 +30,7 @@ impl<W: Write + Drop> StdSink<W> {
         }
     }
 
-    /// The writer, which holds what the sink was given and has not passed on.
+    /// Returns the writer. It may still buffer bytes that the sink was given.
     pub fn into_writer(self) -> W
         ensures { W.contents result ≡ ⟦<StdSink<W> as Sink>⟧.written self }
     {

@@ -1,4 +1,4 @@
-//! The text of a table: its headings, a line for each row, and how many rows there are.
+//! The text of a table: its headings, a line for each row, and the number of rows.
 ghost use Rattle.std.specs.Prelude.{◌∷◌, ◌++◌, ◌↔◌, All, IsTrue, codes, decimal, length, map};
 ghost use Rattle.std.specs.List.{flat_map, join_with_byte};
 ghost use Rattle.tql_spec.specs.Machine.{Table};
@@ -17,7 +17,7 @@ use crate::sink::Sink;
 use tql_memory::Memory;
 use tql_value::value::{ResultTable, Value};
 
-/// Pushes a value that is not its row's first, behind the bar that parts it from the one before.
+/// Pushes a value that is not the first of its row, after a bar as separator.
 fn push_next_cell<S: Sink>(sink: &mut S, cell: &Value) -> Result<(), DeviceFault>
     requires { IsPrintable (datum_of_value cell.now) }
     ensures { Pushes (124 ∷ cell_text (datum_of_value cell.now)) result
@@ -27,7 +27,7 @@ fn push_next_cell<S: Sink>(sink: &mut S, cell: &Value) -> Result<(), DeviceFault
     write_cell(sink, cell.view())
 }
 
-/// Pushes values, each behind a bar.
+/// Pushes values, each after a bar.
 fn push_next_cells<S: Sink>(sink: &mut S, cells: &[Value]) -> Result<(), DeviceFault>
     requires { All (λ v. IsPrintable (datum_of_value v)) cells.now }
     ensures { Pushes (flat_map (λ v. 124 ∷ cell_text (datum_of_value v)) cells.now) result
@@ -39,7 +39,7 @@ fn push_next_cells<S: Sink>(sink: &mut S, cells: &[Value]) -> Result<(), DeviceF
     Ok(())
 }
 
-/// Pushes values, parted by bars.
+/// Pushes values, separated by bars.
 fn push_joined<S: Sink>(sink: &mut S, cells: &[Value]) -> Result<(), DeviceFault>
     requires { All (λ v. IsPrintable (datum_of_value v)) cells.now }
     ensures { Pushes (join_with_byte 124 (map cell_text (row_of cells.now))) result
@@ -54,7 +54,7 @@ fn push_joined<S: Sink>(sink: &mut S, cells: &[Value]) -> Result<(), DeviceFault
     }
 }
 
-/// Pushes a row's line.
+/// Pushes the line of a row.
 fn push_row<S: Sink>(sink: &mut S, cells: &[Value]) -> Result<(), DeviceFault>
     requires { All (λ v. IsPrintable (datum_of_value v)) cells.now }
     ensures { Pushes (row_text (row_of cells.now)) result
@@ -64,7 +64,7 @@ fn push_row<S: Sink>(sink: &mut S, cells: &[Value]) -> Result<(), DeviceFault>
     push_all(sink, b"\n")
 }
 
-/// Pushes the lines of rows.
+/// Pushes the lines of the rows.
 fn push_rows<S: Sink>(sink: &mut S, rows: &[Vec<Value, Memory>]) -> Result<(), DeviceFault>
     requires { All (λ r. All (λ v. IsPrintable (datum_of_value v)) r.items) rows.now }
     ensures { Pushes (flat_map (λ r. row_text (row_of r.items)) rows.now) result
@@ -76,7 +76,7 @@ fn push_rows<S: Sink>(sink: &mut S, rows: &[Vec<Value, Memory>]) -> Result<(), D
     Ok(())
 }
 
-/// Pushes the line that counts the rows.
+/// Pushes the line with the number of rows.
 fn push_row_count<S: Sink>(sink: &mut S, count: usize) -> Result<(), DeviceFault>
     ensures { Pushes (line (40 ∷ decimal count ++ codes " rows)")) result
         (S.written sink.old) (S.written sink.new) (S.failures sink.old) (S.failures sink.new) }
@@ -86,31 +86,30 @@ fn push_row_count<S: Sink>(sink: &mut S, count: usize) -> Result<(), DeviceFault
     push_all(sink, b" rows)\n")
 }
 
-/// Whether all values of a row have a text.
+/// Whether all values of a row can be printed.
 fn is_printable_row(cells: &[Value]) -> bool
     ensures { IsTrue result ↔ All (λ v. IsPrintable (datum_of_value v)) cells.now }
 {
     cells.iter().all(|cell| is_printable(cell.view()))
 }
 
-/// Whether all values of some rows have a text.
+/// Whether all values of some rows can be printed.
 fn are_printable_rows(rows: &[Vec<Value, Memory>]) -> bool
     ensures { IsTrue result ↔ All (λ r. All (λ v. IsPrintable (datum_of_value v)) r.items) rows.now }
 {
     rows.iter().all(|row| is_printable_row(row.as_slice()))
 }
 
-/// Whether a table has a text, which `write_table` asks for: no day and no moment in it lies outside the
-/// years 1 to 9999.
+/// Whether a table can be printed, as `write_table` requires: all its dates and timestamps are in the years 1 to 9999.
 pub fn is_printable_table(table: &ResultTable) -> bool
     ensures { IsTrue result ↔ ArePrintable (table_rows table.now) }
 {
     are_printable_rows(table.rows.as_slice())
 }
 
-/// Pushes a table: the line of its headings, a line for each row, and how many rows there are. Headings
-/// and values are parted by `|`; a heading stands in `"` unless it is of letters A to Z, `_` and digits
-/// (this project's choice). It takes no memory. After an error a beginning of the text was pushed.
+/// Pushes a table: the line of its headings, a line for each row, and the number of rows. Headings and values are
+/// separated by `|`. A heading is in `"` unless it is a letter A to Z or `_`, followed by such letters and digits (a
+/// choice of this project). Allocates no memory. After an error a prefix of the text has been pushed.
 pub fn write_table<S: Sink>(sink: &mut S, table: &ResultTable) -> Result<(), DeviceFault>
     requires { ArePrintable (table_rows table.now) }
     ensures { Pushes (reply_text (Table (headings_of table.now) (table_rows table.now))) result

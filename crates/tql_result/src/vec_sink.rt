@@ -7,20 +7,20 @@ use crate::sink::Sink;
 use std::alloc::AllocError;
 use tql_memory::Memory;
 
-/// A sink into a vector of bytes. A push is taken whole; where the vector finds no memory for it, none of it is, that
-/// is counted, and the allocator's error is kept: a push fails only with one. A flush has nothing to pass on, and does
-/// well.
+/// A sink into a vector of bytes. A push takes all its bytes. If their memory is refused, it takes none, counts a
+/// failure, and keeps the allocator's error. There is no other reason for a push to fail. A flush has nothing to pass
+/// on and always succeeds.
 #[derive(Drop)]
 pub struct VecSink {
     bytes: Vec<u8, Memory>,
     failures: u64,
     flushed: bool,
-    /// What the vector said to the last push.
+    /// The outcome of the allocation for the last push.
     grown: Result<(), AllocError>,
 }
 
 impl VecSink {
-    /// A sink that puts what it takes behind these bytes. It has counted no failure, and is not flushed.
+    /// Returns a sink that appends to these bytes. It has counted no failure, and does not count as flushed.
     pub fn new(bytes: Vec<u8, Memory>) -> VecSink
         ensures written { ⟦<VecSink as Sink>⟧.written result ≡ Some bytes.entry.items }
         ensures failures { ⟦<VecSink as Sink>⟧.failures result ≡ 0 }
@@ -34,7 +34,7 @@ impl VecSink {
         }
     }
 
-    /// The bytes that it holds.
+    /// Returns the bytes that the sink contains.
     pub fn into_bytes(self) -> Vec<u8, Memory>
         ensures { ⟦<VecSink as Sink>⟧.written self ≡ Some result.items }
     {

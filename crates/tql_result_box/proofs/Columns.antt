@@ -1,4 +1,4 @@
--- The lines of a box, from one of its columns on.
+-- The rest of a line of a box, starting at one of its columns.
 use Rattle.std.proofs.Common.{◌≡◌, ℕ, zero, suc, ◌+◌, ◌-◌, ◌<◌, List, [], ◌∷◌, ◌++◌, refl, sym, ◌∙◌, ap, map}
 use Rattle.std.proofs.Common.{drop, length, get_or, arith, append_assoc, subst, ◌≤◌, Option}
 use Rattle.std.proofs.lemmas.List.{drop_more, drop_all}
@@ -16,7 +16,7 @@ pub laid_more : {A B : Type 0} (f : Layout → A → B) (ls : List Layout) (x : 
 laid_more f [] x xs = refl
 laid_more f (l ∷ ls) x xs = refl
 
--- texts from one of the columns on, by the first of them
+-- the texts from column i on are the text of that column and those of the next columns
 pub laid_next : {A X : Type 0} (f : Layout → A → List ℕ) (v : X → A) (ls others : List Layout) (xs : List X) (i : ℕ)
     (x : X) (piece : List ℕ) → i < length xs → x ≡ get_or xs i x → others ≡ drop 1 ls
     → f (first_layout ls) (v x) ≡ piece
@@ -27,7 +27,7 @@ laid_next f v ls others xs i x piece h e d p =
     ∙ ap (λ t. t ++ concat (laid f (drop 1 ls) (map v (drop (i + 1) xs)))) p
     ∙ ap (λ l. piece ++ concat (laid f l (map v (drop (i + 1) xs)))) (sym d)
 
--- texts behind what stands before them
+-- `joined`, with `front` before the first text
 abbrev pub joined_after : List ℕ → List ℕ → List (List ℕ) → List ℕ
 joined_after front between [] = []
 joined_after front between (t ∷ ts) = (front ++ t) ++ flat_map (λ u. between ++ u) ts
@@ -53,17 +53,17 @@ joined_next f v front between ls others xs i x piece h d p =
     ∙ ap (λ t. piece ++ t) (after_between between (laid f (drop 1 ls) (map v (drop (i + 1) xs))))
     ∙ ap (λ l. piece ++ joined_after between between (laid f l (map v (drop (i + 1) xs)))) (sym d)
 
--- the bars of the columns, by what stands between them
+-- equal separators give equal bars
 pub bars_same : {a b : List ℕ} (ls : List Layout) (hs : List Name) → a ≡ b
     → joined a (laid (λ l h. bar l.width) ls hs) ≡ joined b (laid (λ l h. bar l.width) ls hs)
 bars_same ls hs e = ap (λ t. joined t (laid (λ l h. bar l.width) ls hs)) e
 
--- a text again, once more
+-- n repetitions are one repetition and n - 1 more
 pub times_more : (n : ℕ) (t : List ℕ) → 0 < n → times n t ≡ t ++ times (n - 1) t
 times_more zero t h = absurd (omega arith)
 times_more (suc n) t h = let same : n ≡ suc n - 1 = omega arith in ap (λ (k : ℕ). t ++ times k t) same
 
--- a text again, twice more
+-- two repetitions and n more are n + 2
 pub times_two : (n : ℕ) (t : List ℕ) → (t ++ t) ++ times n t ≡ times (n + 2) t
 times_two n t =
     let one : n + 2 - 1 ≡ n + 1 = omega arith in
@@ -74,13 +74,13 @@ times_two n t =
     ∙ ap (λ (k : ℕ). t ++ times k t) (sym one)
     ∙ sym (times_more (n + 2) t (omega arith))
 
--- what is left to push, said otherwise
+-- equal remainders can be replaced
 pub sent_as : {text rest others : List ℕ} {o n : Option (List ℕ)} {b k : ℕ} → rest ≡ others → Sent text rest o n b k
     → Sent text others o n b k
 sent_as {text} {o = o} {n = n} {b = b} {k = k} e s =
     let P : List ℕ → Type 0 = λ l. Sent text l o n b k in subst P e s
 
--- no column is left
+-- no column, no text
 pub laid_none : {A B : Type 0} (f : Layout → A → B) (ls : List Layout) → laid f ls [] ≡ []
 laid_none f [] = refl
 laid_none f (l ∷ ls) = refl
@@ -89,12 +89,12 @@ pub laid_end : {A X B : Type 0} (f : Layout → A → B) (v : X → A) (ls : Lis
     → length xs ≤ i → laid f ls (map v (drop i xs)) ≡ []
 laid_end f v ls xs i h = ap (λ l. laid f ls (map v l)) (drop_all i xs h) ∙ laid_none f ls
 
--- the element at a place, where there is one
+-- some element of a list that is longer than i
 pub some_of : {X : Type 0} (xs : List X) (i : ℕ) → i < length xs → X
 some_of [] i h = absurd (omega arith)
 some_of (x ∷ xs) i h = x
 
--- a value in its column, on either side of the blanks
+-- a value in its column, with the blanks on the left or on the right
 pub filled_right : (w n : ℕ) (r : Bool) (d : Datum) → r ≡ true → n ≡ w - value_width d
     → times n (codes " ") ++ shown d ≡ filled w r d
 filled_right w n r d side e =

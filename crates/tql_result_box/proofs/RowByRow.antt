@@ -1,4 +1,4 @@
--- The layouts of columns, with one row more.
+-- The layouts of columns after one more row.
 use Rattle.std.proofs.Common.{◌≡◌, ℕ, ◌≤◌, List, [], ◌∷◌, ◌++◌, refl, sym, ◌∙◌, ap, map, drop, take, length}
 use Rattle.std.proofs.Common.{append_assoc, arith}
 use Rattle.std.proofs.lemmas.Grind.{flat_map-append}
@@ -65,27 +65,27 @@ layouts_from hs before (r ∷ rows) =
     ap (λ l. fold with_row l rows) (layouts_more hs before r) ∙ layouts_from hs (before ++ (r ∷ [])) rows
     ∙ ap (box_layouts hs) (append_assoc before (r ∷ []) rows)
 
--- before the first row
+-- the layouts before the first row
 pub heading_layouts_are : {X : Type 0} (v : X → Name) (xs : List X)
     → map (λ x. column_layout (v x) []) xs ≡ box_layouts (map v xs) []
 heading_layouts_are v [] = refl
 heading_layouts_are v (x ∷ xs) = ap (λ l. column_layout (v x) [] ∷ l) (heading_layouts_are v xs)
 
--- a row's values end before its columns
+-- a row with fewer values than columns leaves the other layouts unchanged
 pub row_end : {X : Type 0} (v : X → Datum) (ls : List Layout) (cells : List X) (i : ℕ) → length cells ≤ i
     → take i ls ++ with_row (drop i ls) (map v (drop i cells)) ≡ ls
 row_end v ls cells i h =
     ap (λ k. take i ls ++ with_row (drop i ls) (map v k)) (drop_all i cells h)
     ∙ ap (λ k. take i ls ++ k) (with_row_none (drop i ls)) ∙ take-append-drop i ls
 
--- layouts that are kept in place of others of their number
+-- replacing the first layouts of a list that is not longer
 pub kept_whole : (new old : List Layout) (len : ℕ) → length new ≡ len → length old ≤ len
     → take len (new ++ drop (length new) old) ≡ new
 kept_whole new old len e h =
     ap (λ (l : List Layout). take len (new ++ l)) (drop_all (length new) old (omega arith))
     ∙ ap (λ (l : List Layout). take len l) (append-nil new) ∙ take_all len new (omega arith)
 
--- layouts of columns, from their headings and all rows
+-- the layouts of columns, from their headings and all rows
 pub layouts_of_rows : (hs : List Name) (rows given : List Row) (start new : List Layout) → start ≡ box_layouts hs []
     → given ≡ rows → new ≡ fold with_row start given → new ≡ box_layouts hs rows
 layouts_of_rows hs rows given start new headings same all =

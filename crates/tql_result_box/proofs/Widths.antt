@@ -1,4 +1,4 @@
--- The widths of days and moments.
+-- The widths of dates and timestamps.
 use Rattle.std.proofs.Common.{◌≡◌, ℕ, ◌/◌, ◌%◌, ◌<◌, List, [], ◌∷◌, ◌++◌, sym, ◌∙◌, ap, arith, length, subst}
 use Rattle.std.specs.Prelude.{ℤ}
 use Rattle.tql_spec.specs.Calendar.{day_parts, moment_day, moment_micros}
@@ -14,7 +14,7 @@ use Rattle.tql_result_laws.proofs.Dates.{micros_short}
 use Rattle.tql_result_box.specs.Box.{value_width}
 use Rattle.tql_result_box.proofs.Characters.{other}
 
--- a day takes ten characters
+-- a date takes ten characters
 pub length_of_day : (d : ℤ) → IsDay d → 10 ≡ length (cell_text (Day d))
 length_of_day d h = sym (ap length (date_is (day_parts d) (day_short d h)))
 
@@ -28,7 +28,7 @@ moment_bytes m rest h e =
     ∙ ap (λ l. date_bytes (moment_day m) ++ 32 ∷ l) (time_is (moment_micros m) (micros_short m))
     ∙ ap (λ l. date_bytes (moment_day m) ++ 32 ∷ clock_bytes (moment_micros m / 1_000_000) l) e
 
--- a moment at a whole second takes nineteen
+-- a timestamp at a whole second takes nineteen characters
 pub length_of_second : {given moment : ℤ} {micros : ℕ} → given ≡ moment → IsMoment moment
     → micros ≡ moment_micros given % 1_000_000 → micros ≡ 0 → 19 ≡ length (cell_text (Moment moment))
 length_of_second {given} {moment} {micros} same h part none =
@@ -36,7 +36,7 @@ length_of_second {given} {moment} {micros} same h part none =
     sym (ap (λ (m : ℤ). moment_micros m % 1_000_000) same) ∙ sym part ∙ none in
     sym (ap length (moment_bytes moment [] h (ap fraction_text fraction)))
 
--- any other moment takes twenty-six
+-- any other timestamp takes twenty-six characters
 pub length_of_micros : {given moment : ℤ} {micros : ℕ} → given ≡ moment → IsMoment moment
     → micros ≡ moment_micros given % 1_000_000 → (micros ≡ 0 → ⊥) → 26 ≡ length (cell_text (Moment moment))
 length_of_micros {given} {moment} {micros} same h part some =
@@ -46,7 +46,7 @@ length_of_micros {given} {moment} {micros} same h part some =
     let small : f < 1000000 = omega arith in
     sym (ap length (moment_bytes moment (46 ∷ six_bytes f) h (fraction_some f some_left small)))
 
--- the width of a view of a day
+-- the width of a view of a date
 pub width_of_day : (v : View) (d : ℤ) → v ≡ view.Day d → IsPrintable (datum_of_view v)
     → 10 ≡ value_width (datum_of_view v)
 width_of_day v d e h =

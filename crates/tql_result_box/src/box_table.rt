@@ -15,14 +15,14 @@ use tql_result::pieces::push_all;
 use tql_result::sink::Sink;
 use tql_value::value::{ResultTable, Value};
 
-/// Returns what follows the number of rows on its line.
+/// Returns the rest of the line after the number of rows.
 fn rows_end(count: usize) -> &'static [u8]
     ensures { result.now ≡ end_of_count count }
 {
     if count == 1 { b" row)\n" } else { b" rows)\n" }
 }
 
-/// Pushes the number of rows.
+/// Pushes the line with the number of rows.
 fn push_count<S: Sink>(sink: &mut S, count: usize) -> Result<(), DeviceFault>
     ensures { Pushes (count_line count) result
         (S.written sink.old) (S.written sink.new) (S.failures sink.old) (S.failures sink.new) }
@@ -46,7 +46,7 @@ fn push_head<S: Sink>(
     push_rule(sink, "├", "┼", "┤", layouts, names)
 }
 
-/// Pushes a table whose columns are laid out so.
+/// Pushes a table with these column layouts.
 fn push_box<S: Sink>(
     sink: &mut S,
     layouts: &[Layout],
@@ -63,16 +63,16 @@ fn push_box<S: Sink>(
     push_count(sink, rows.len())
 }
 
-/// Pushes a table as aligned columns with a border, and the number of its rows. `memory` keeps the width of each column
-/// for the call; where it is refused, the columns are not aligned.
+/// Pushes a table as aligned columns with a border, and the number of its rows. `memory` holds the column widths during
+/// the call. If their memory is refused, the columns are not aligned.
 ///
-/// A column is as wide as the widest of its heading and its values. Its values stand to the right where its first value
-/// that is not NULL is a number. NULL is shown as `NULL`, and a text without quotes. A control character is shown as
-/// `\n`, `\r`, `\t`, or by its number, as `\u{1b}`.
+/// A column is as wide as the widest of its heading and its values. Values are right-aligned if the first value that is
+/// not NULL is a number. NULL is shown as `NULL`, and a text without quotes. A control character is shown as `\n`,
+/// `\r`, `\t`, or by its number, for example `\u{1b}`.
 ///
 /// # Errors
 ///
-/// Fails where the sink fails; a beginning of the text was pushed then.
+/// Fails if the sink fails. A prefix of the text has then been pushed.
 pub fn write_box_table<S: Sink>(
     memory: Memory,
     sink: &mut S,

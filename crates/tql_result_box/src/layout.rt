@@ -1,4 +1,4 @@
-//! How the columns of a table are laid out: how wide each is, and on which side its values stand.
+//! The layout of the columns of a table: their widths and alignment.
 ghost use Rattle.std.specs.Prelude.{◌≡◌, IfOk, All, [], map, drop, string_bytes};
 ghost use Rattle.std.specs.List.{fold};
 ghost use Rattle.tql_value.specs.Views.{datum_of_value, datum_of_view, row_of};
@@ -15,19 +15,19 @@ use tql_value::value::{ResultTable, Value, View};
 /// The layout of a column.
 #[derive(Clone, Copy)]
 pub(crate) struct Layout {
-    /// How many columns of a terminal its heading and its values take at most.
+    /// The maximum width of its heading and its values, in terminal columns.
     pub width: usize,
-    /// Whether its first value that is not NULL is a number; None where there is no such value.
+    /// Whether its first value that is not NULL is a number; None if all values are NULL.
     pub number: Option<bool>,
 }
 
-/// The layout of a column of which nothing is known.
+/// The layout of a column about which nothing is known.
 const UNKNOWN: Layout = Layout {
     width: 0,
     number: None,
 };
 
-/// Returns the layout of the first of some columns, and those of the others.
+/// Returns the layout of the first column, and those of the others.
 pub(crate) fn next_layout(layouts: &[Layout]) -> (Layout, &[Layout])
     ensures first { result.0 ≡ first_layout layouts.now }
     ensures others { result.1.now ≡ drop 1 layouts.now }
@@ -49,7 +49,7 @@ fn is_number(cell: View<'_>) -> Option<bool>
     }
 }
 
-/// Returns the layout of a column that has one value more.
+/// Returns the layout of a column after a value was added.
 fn widened(layout: Layout, cell: View<'_>) -> Layout
     requires { IsPrintable (datum_of_view cell) }
     ensures { result ≡ widened_by layout (datum_of_view cell.entry) }
@@ -60,7 +60,7 @@ fn widened(layout: Layout, cell: View<'_>) -> Layout
     }
 }
 
-/// Adds a row to the layouts of its columns.
+/// Adds a row to the layouts of the columns.
 fn add_row(layouts: &mut [Layout], cells: &[Value])
     requires { All (λ v. IsPrintable (datum_of_value v)) cells.now }
     ensures { layouts.new ≡ with_row layouts.old (row_of cells.now) }
@@ -72,7 +72,7 @@ fn add_row(layouts: &mut [Layout], cells: &[Value])
     }
 }
 
-/// Returns the layout of a column that has a heading and no values.
+/// Returns the layout of a column with a heading and no values.
 fn heading_layout(name: &str) -> Layout
     ensures { result ≡ column_layout name.now [] }
 {
@@ -82,7 +82,7 @@ fn heading_layout(name: &str) -> Layout
     }
 }
 
-/// Returns the layouts of columns that have headings and no values. The only error is a refused allocation.
+/// Returns the layouts of columns with headings and no values. The only error is a refused allocation.
 fn heading_layouts(
     memory: Memory,
     names: &[String<Memory>],
@@ -96,7 +96,7 @@ fn heading_layouts(
     Ok(layouts)
 }
 
-/// Adds rows to the layouts of their columns.
+/// Adds rows to the layouts of the columns.
 fn add_rows(layouts: &mut [Layout], rows: &[Vec<Value, Memory>])
     requires { All (λ r. All (λ v. IsPrintable (datum_of_value v)) r.items) rows.now }
     ensures { layouts.new ≡ fold with_row layouts.old (map (λ r. row_of r.items) rows.now) }

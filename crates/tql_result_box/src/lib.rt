@@ -1,4 +1,4 @@
-//! A table as aligned columns with a border, pushed into a sink: for people who read it in a terminal.
+//! Pushes a table as aligned columns with a border into a sink, for people who read it in a terminal.
 #![tactic(auto)]
 
 pub mod box_table;

@@ -15,7 +15,7 @@ use tql_result::pieces::push_all;
 use tql_result::sink::Sink;
 use tql_value::value::{Value, View};
 
-/// Pushes a piece again and again.
+/// Pushes a piece `times` times.
 fn push_times<S: Sink>(sink: &mut S, piece: &str, times: usize) -> Result<(), DeviceFault>
     ensures { Pushes (times_of times piece.now) result
         (S.written sink.old) (S.written sink.new) (S.failures sink.old) (S.failures sink.new) }
@@ -37,7 +37,7 @@ fn push_bar<S: Sink>(sink: &mut S, width: usize) -> Result<(), DeviceFault>
     push_times(sink, "─", width)
 }
 
-/// Pushes a bar, with what stands before it.
+/// Pushes `front`, then a bar.
 fn push_next_bar<S: Sink>(sink: &mut S, front: &[u8], width: usize) -> Result<(), DeviceFault>
     ensures { Pushes (front.now ++ bar width) result
         (S.written sink.old) (S.written sink.new) (S.failures sink.old) (S.failures sink.new) }
@@ -46,7 +46,7 @@ fn push_next_bar<S: Sink>(sink: &mut S, front: &[u8], width: usize) -> Result<()
     push_bar(sink, width)
 }
 
-/// Pushes the bars of the columns, with a cross between each two.
+/// Pushes the bars of the columns, with `cross` between adjacent columns.
 fn push_bars<S: Sink>(
     sink: &mut S,
     cross: &[u8],
@@ -67,7 +67,7 @@ fn push_bars<S: Sink>(
     Ok(())
 }
 
-/// Pushes a line of the border: what stands at its left end, between two columns, and at its right end.
+/// Pushes a line of the border, given its left end, the cross between columns, and its right end.
 pub(crate) fn push_rule<S: Sink>(
     sink: &mut S,
     left: &str,
@@ -85,7 +85,7 @@ pub(crate) fn push_rule<S: Sink>(
     push_all(sink, b"\n")
 }
 
-/// Pushes a value with the blanks that fill its column.
+/// Pushes a value, padded with blanks to the width of its column.
 fn push_filled<S: Sink>(
     sink: &mut S,
     width: usize,
@@ -106,7 +106,7 @@ fn push_filled<S: Sink>(
     }
 }
 
-/// Pushes a value in its column, with the border before it.
+/// Pushes a value in its column, after the border.
 fn push_boxed<S: Sink>(
     sink: &mut S,
     width: usize,
@@ -183,7 +183,7 @@ fn push_row<S: Sink>(sink: &mut S, layouts: &[Layout], cells: &[Value]) -> Resul
     push_all(sink, "│\n".as_bytes())
 }
 
-/// Pushes the lines of rows.
+/// Pushes the lines of the rows.
 pub(crate) fn push_rows<S: Sink>(
     sink: &mut S,
     layouts: &[Layout],

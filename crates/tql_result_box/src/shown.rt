@@ -1,4 +1,4 @@
-//! Values as they are shown in a box, and how many columns of a terminal they take.
+//! Values as shown in a box, and their widths in terminal columns.
 ghost use Rattle.std.specs.Prelude.{◌≡◌, ◌<◌, true, length};
 ghost use Rattle.std.specs.Char.{is_control};
 ghost use Rattle.std.specs.Fmt.{signed_decimal};
@@ -21,7 +21,7 @@ use tql_value::calendar::moment_parts;
 use tql_value::value::View;
 use unicode_width::UnicodeWidthChar;
 
-/// Returns a digit of base 16.
+/// Returns a hexadecimal digit.
 fn hex_digit(digit: u8) -> u8
     requires { digit < 16 }
     ensures { result ≡ hex_digit_of digit }
@@ -33,7 +33,7 @@ fn hex_digit(digit: u8) -> u8
     }
 }
 
-/// Returns the escape of a control character, by its number.
+/// Returns the escape of a control character, given its number.
 fn escape_bytes(number: u8) -> [u8; 6]
     ensures { result ≡ control_escape number }
 {
@@ -47,7 +47,7 @@ fn escape_bytes(number: u8) -> [u8; 6]
     ]
 }
 
-/// Pushes a control character: as `\n`, `\r`, `\t`, or by its number, as `\u{1b}`.
+/// Pushes a control character as `\n`, `\r`, `\t`, or by its number, for example `\u{1b}`.
 fn push_control<S: Sink>(sink: &mut S, character: char) -> Result<(), DeviceFault>
     requires { is_control character ≡ true }
     ensures { Pushes (shown_character character) result
@@ -61,7 +61,7 @@ fn push_control<S: Sink>(sink: &mut S, character: char) -> Result<(), DeviceFaul
     }
 }
 
-/// Pushes a character as it is shown: itself, or the escape of a control character.
+/// Pushes a character as shown: itself, or the escape of a control character.
 fn push_character<S: Sink>(sink: &mut S, character: char) -> Result<(), DeviceFault>
     ensures { Pushes (shown_character character) result
         (S.written sink.old) (S.written sink.new) (S.failures sink.old) (S.failures sink.new) }
@@ -73,7 +73,7 @@ fn push_character<S: Sink>(sink: &mut S, character: char) -> Result<(), DeviceFa
     }
 }
 
-/// Pushes a text as it is shown: each control character is escaped.
+/// Pushes a text as shown, with each control character escaped.
 fn push_text<S: Sink>(sink: &mut S, text: &str) -> Result<(), DeviceFault>
     ensures { Pushes (visible text.now) result
         (S.written sink.old) (S.written sink.new) (S.failures sink.old) (S.failures sink.new) }
@@ -84,7 +84,7 @@ fn push_text<S: Sink>(sink: &mut S, text: &str) -> Result<(), DeviceFault>
     Ok(())
 }
 
-/// Pushes a value as it is shown: `NULL`, a number in decimal digits, a text without quotes, a day, or a moment.
+/// Pushes a value as shown: `NULL`, a number in decimal, a text without quotes, a date, or a timestamp.
 pub(crate) fn push_shown<S: Sink>(sink: &mut S, cell: View<'_>) -> Result<(), DeviceFault>
     requires { IsPrintable (datum_of_view cell) }
     ensures { Pushes (shown (datum_of_view cell.entry)) result
@@ -99,7 +99,7 @@ pub(crate) fn push_shown<S: Sink>(sink: &mut S, cell: View<'_>) -> Result<(), De
     }
 }
 
-/// Returns the width of the escape of a control character, in columns of a terminal.
+/// Returns the width of the escape of a control character, in terminal columns.
 fn control_width(character: char) -> usize
     requires { is_control character ≡ true }
     ensures { result ≡ length (shown_character character) }
@@ -110,7 +110,7 @@ fn control_width(character: char) -> usize
     }
 }
 
-/// Returns the width of a character as it is shown, in columns of a terminal.
+/// Returns the width of a character as shown, in terminal columns.
 fn character_width(character: char) -> usize
     ensures { result ≡ width_of character }
 {
@@ -121,7 +121,7 @@ fn character_width(character: char) -> usize
     }
 }
 
-/// Returns the width of a text as it is shown, in columns of a terminal; at most 2^64 - 1.
+/// Returns the width of a text as shown, in terminal columns; at most 2^64 - 1.
 pub(crate) fn text_width(text: &str) -> usize
     ensures { result ≡ text_width_of text.now }
 {
@@ -132,14 +132,14 @@ pub(crate) fn text_width(text: &str) -> usize
     width
 }
 
-/// Returns the length of a number in decimal digits, with its sign.
+/// Returns the length of a number in decimal digits, including its sign.
 fn int_width(number: i64) -> usize
     ensures { result ≡ length (signed_decimal number) }
 {
     Buffer::new().format(number).len()
 }
 
-/// Returns the length of `YYYY-MM-DD HH:MM:SS`, with its fraction, if it has one.
+/// Returns the length of `YYYY-MM-DD HH:MM:SS`, including the fraction of the second unless it is zero.
 fn moment_width(moment: i64) -> usize
     requires { IsMoment moment }
     ensures { result ≡ length (cell_text (Moment moment)) }
@@ -151,7 +151,7 @@ fn moment_width(moment: i64) -> usize
     }
 }
 
-/// Returns the width of a value as it is shown, in columns of a terminal.
+/// Returns the width of a value as shown, in terminal columns.
 pub(crate) fn value_width(cell: View<'_>) -> usize
     requires { IsPrintable (datum_of_view cell) }
     ensures { result ≡ value_width_of (datum_of_view cell.entry) }

@@ -1,4 +1,4 @@
--- The bytes of a string, cut at the first that is escaped.
+-- The bytes of a string, split at the first that needs an escape.
 use Rattle.std.proofs.Common.{◌≡◌, ℕ, ◌+◌, ◌-◌, ◌<◌, ◌≤◌, suc, false, List, [], ◌∷◌, ◌++◌, refl, sym, ◌∙◌, ap}
 use Rattle.std.proofs.Common.{take, drop, length, get_or, arith, inl, inr}
 use Rattle.std.proofs.lemmas.Bool.{ltb-false, cases_Bool}
@@ -10,21 +10,21 @@ use Rattle.std.specs.List.{position_or_len, flat_map}
 use Rattle.tql_result_laws.specs.Json.{escaped}
 use Rattle.tql_result_forms.specs.Escapes.{has_escape}
 
--- a byte that is not escaped stays
+-- a byte that needs no escape is unchanged
 escaped_clear : (x : ℕ) → has_escape x ≡ false → escaped x ≡ x ∷ []
 escaped_clear x e = elim (cases_Bool ((x == 34) || (x == 92))) [
   | inl sign ↦ let h = rw sign at e in absurd (cc)
   | inr other ↦ let h = rw other at e in rw (other, h) refl
 ]
 
--- a text with no such byte stays
+-- a text without bytes that need an escape is unchanged
 clear : (xs : List ℕ) → ((k : ℕ) → k < length xs → has_escape (get_or xs k 0) ≡ false) → flat_map escaped xs ≡ xs
 clear [] h = refl
 clear (x ∷ xs) h =
     ap (λ l. l ++ flat_map escaped xs) (escaped_clear x (h 0 (omega arith)))
     ∙ ap (λ l. x ∷ l) (clear xs (λ k b. h (suc k) (omega arith)))
 
--- a text where the first place is behind its end
+-- a text is unchanged if the position of the first escape is past its end
 clear_past : (xs : List ℕ) → length xs ≤ position_or_len has_escape xs → flat_map escaped xs ≡ xs
 clear_past [] h = refl
 clear_past (x ∷ xs) h = elim (cases_Bool (has_escape x)) [
@@ -35,14 +35,14 @@ clear_past (x ∷ xs) h = elim (cases_Bool (has_escape x)) [
       ∙ ap (λ l. x ∷ l) (clear_past xs (omega (arith, more)))
 ]
 
--- a text with no place of such a byte
+-- a text is unchanged if there is no position of an escape
 pub escapes_without : (xs : List ℕ) → position has_escape xs ≡ None → flat_map escaped xs ≡ xs
 escapes_without xs e = elim (cases_Bool (nat_lt (position_or_len has_escape xs) (length xs))) [
   | inl below ↦ let found = rw below at e in absurd (cc)
   | inr above ↦ clear_past xs (ltb-false _ _ above)
 ]
 
--- a text cut at its first such byte
+-- a text split at its first byte that needs an escape
 escapes_at : (xs : List ℕ) (i : ℕ) → position has_escape xs ≡ Some i
     → flat_map escaped xs ≡ take i xs ++ (escaped (get_or xs i 0) ++ flat_map escaped (drop (i + 1) xs))
 escapes_at xs i e =
@@ -57,7 +57,7 @@ escapes_at xs i e =
     ap (flat_map escaped) parts ∙ flat_map-append _ (take i xs) (get_or xs i 0 ∷ drop (i + 1) xs)
     ∙ ap (λ l. l ++ flat_map escaped (get_or xs i 0 ∷ drop (i + 1) xs)) front
 
--- the same of the parts before and from that place on
+-- the same, given the parts before and from that position on
 pub escapes_parts : (xs : List ℕ) (i : ℕ) (front back : List ℕ) → front ≡ take i xs → back ≡ drop i xs
     → position has_escape xs ≡ Some i
     → flat_map escaped xs

@@ -1,4 +1,4 @@
--- The lines of rows, by their data.
+-- The lines of rows, in terms of their data.
 use Rattle.std.proofs.Common.{◌≡◌, ℕ, List, sym, ◌∙◌, ap, map}
 use Rattle.std.proofs.lemmas.List.Folds.{flat_map-map}
 use Rattle.std.specs.Prelude.{Vec}

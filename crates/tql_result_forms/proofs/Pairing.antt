@@ -1,4 +1,4 @@
--- The members of a row, from one of its columns on.
+-- The members of a row, starting at one of its columns.
 use Rattle.std.proofs.Common.{◌≡◌, ℕ, ◌+◌, ◌<◌, List, [], ◌∷◌, ◌++◌, sym, ◌∙◌, ap, subst, map, refl, drop}
 use Rattle.std.proofs.Common.{length, get_or, arith, inl, inr, Option}
 use Rattle.std.proofs.lemmas.Bool.{cases_lt}
@@ -11,7 +11,7 @@ use Rattle.tql_result_laws.specs.Jsonl.{row_members}
 use Rattle.tql_result.proofs.Pushing.{Sent}
 use Rattle.tql_result_forms.proofs.Parting.{parted_after, parted_after_more}
 
--- members of the rest of a row, by its first value
+-- the members from column i on are the member of that column and those of the next columns
 pub members_next : {X Y : Type 0} (f : X → List ℕ) (g : Y → Datum) (names : List X) (cells : List Y) (i : ℕ) (n : X)
     (c : Y) → i < length names → i < length cells → n ≡ get_or names i n → c ≡ get_or cells i c
     → row_members (map f (drop i names)) (map g (drop i cells))
@@ -26,7 +26,7 @@ no_values : (hs : List Name) → row_members hs [] ≡ []
 no_values [] = refl
 no_values (h ∷ hs) = refl
 
--- no member is left where the headings or the values end
+-- no member is left after the last heading or the last value
 pub members_end : {X Y : Type 0} (f : X → List ℕ) (g : Y → Datum) (names : List X) (cells : List Y) (i : ℕ)
     → i ≡ min (length names) (length cells) → row_members (map f (drop i names)) (map g (drop i cells)) ≡ []
 members_end f g names cells i e = elim (cases_lt i (length names)) [
@@ -36,13 +36,13 @@ members_end f g names cells i e = elim (cases_lt i (length names)) [
   | inr none ↦ ap (λ l. row_members (map f l) (map g (drop i cells))) (drop_all i names none)
 ]
 
--- what is left to push, said otherwise
+-- equal remainders can be replaced
 pub sent_as : {text rest others : List ℕ} {o n : Option (List ℕ)} {b k : ℕ} → rest ≡ others → Sent text rest o n b k
     → Sent text others o n b k
 sent_as {text} {o = o} {n = n} {b = b} {k = k} e s =
     let P : List ℕ → Type 0 = λ l. Sent text l o n b k in subst P e s
 
--- the members from a column on, by the first of them
+-- the members from a column on, with `front` before the first
 pub members_turn : {X Y : Type 0} (f : X → List ℕ) (g : Y → Datum) (front : List ℕ) (names : List X) (cells : List Y)
     (i : ℕ) (n : X) (c : Y) (name : List ℕ) (d : Datum) → i < length names → i < length cells → n ≡ get_or names i n
     → c ≡ get_or cells i c → name ≡ f n → d ≡ g c

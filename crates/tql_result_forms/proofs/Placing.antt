@@ -1,4 +1,4 @@
--- The text of an answer, by its beginning, what it says, and its end.
+-- The text of an answer, split into its beginning, its members, and its end.
 use Rattle.std.proofs.Common.{◌≡◌, ℕ, List, [], ◌∷◌, ◌++◌, append_assoc, decimal, sym, ◌∙◌, ap, refl}
 use Rattle.std.proofs.lemmas.Grind.{flat_map-append}
 use Rattle.std.proofs.lemmas.List.{append-nil}
@@ -10,12 +10,12 @@ use Rattle.tql_result_laws.specs.Json.{string, member, known, Fault, fault_membe
 use Rattle.tql_result_laws.specs.Json.{json_text}
 use Rattle.tql_spec.specs.Text.{line}
 
--- the beginning of an object: the number of a statement, and its line
+-- the beginning of an object: the statement number and the line
 abbrev pub place_text : ℕ → ℕ → List ℕ
 place_text statement at =
     123 ∷ member (codes "statement") (decimal statement) ++ 44 ∷ 32 ∷ member (codes "line") (decimal at)
 
--- each member behind a comma
+-- members, each after a comma
 abbrev pub members_text : List (List ℕ) → List ℕ
 members_text members = flat_map (λ m. 44 ∷ 32 ∷ m) members
 
@@ -32,21 +32,21 @@ json_parts statement at fault a =
     three_parts (member (codes "statement") (decimal statement)) (member (codes "line") (decimal at))
     (members_text (members_of fault a))
 
--- a member, by its name and what it names
+-- a member, split into its name and its value
 pub member_parts : (name value : List ℕ)
     → (44 ∷ 32 ∷ (string name ++ (58 ∷ 32 ∷ []))) ++ value ≡ members_text (member name value ∷ [])
 member_parts name value =
     ap (λ l. 44 ∷ 32 ∷ l) (append_assoc (string name) (58 ∷ 32 ∷ []) value)
     ∙ sym (append-nil (44 ∷ 32 ∷ member name value))
 
--- a member that may be there, and others
+-- an optional member before others
 known_parts : {A : Type 0} (name : List ℕ) (text : A → List ℕ) (x : Option A) (ms : List (List ℕ))
     → members_text (known name text x []) ++ members_text ms ≡ members_text (known name text x ms)
 known_parts name text None ms = refl
 known_parts name text (Some a) ms =
     ap (λ l. l ++ members_text ms) (append-nil (44 ∷ 32 ∷ member name (text a)))
 
--- three such members
+-- three optional members
 pub three_known : {A B C : Type 0} (n o p : List ℕ) (f : A → List ℕ) (g : B → List ℕ) (h : C → List ℕ) (x : Option A)
     (y : Option B) (z : Option C)
     → members_text (known n f x []) ++ (members_text (known o g y []) ++ members_text (known p h z []))
@@ -70,7 +70,7 @@ fault_is f =
     ∙ ap column (known_append (codes "detail") string f.detail (hint []) (constraint_members f)
     ∙ ap detail (known_append (codes "hint") string f.hint [] (constraint_members f)))
 
--- members, and those of a fault
+-- members, followed by those of a fault
 pub fault_parts : (members : List (List ℕ)) (f : Fault)
     → members_text members ++ (members_text (place_members f) ++ members_text (constraint_members f))
     ≡ members_text (members ++ fault_members f)

@@ -1,4 +1,4 @@
--- Which bytes of a string are escaped.
+-- The bytes of a string that need an escape.
 use Rattle.std.specs.Prelude.{ℕ, Bool, ◌||◌, ◌==◌, nat_lt}
 
 -- a quote, a backslash, or a control byte

@@ -17,21 +17,21 @@ use tql_result::quoted::push_quoted;
 use tql_result::sink::Sink;
 use tql_value::value::{ResultTable, Value, View};
 
-/// Whether it is a comma, a quote, a carriage return or a line feed.
+/// Whether the byte is a comma, a quote, a carriage return or a line feed.
 fn is_sign(byte: u8) -> bool
     ensures { result ≡ sign_of byte }
 {
     byte == b',' || byte == b'"' || byte == b'\r' || byte == b'\n'
 }
 
-/// Whether a text holds a comma, a quote or an end of a line.
+/// Whether a text contains a comma, a quote, a carriage return or a line feed.
 fn has_sign(text: &[u8]) -> bool
     ensures { result ≡ list_any sign_of text.now }
 {
     text.iter().any(|byte| is_sign(*byte))
 }
 
-/// Whether a text stands in quotes: one that is empty, or holds a comma, a quote or an end of a line.
+/// Whether a text needs quotes: it is empty, or contains a comma, a quote, a carriage return or a line feed.
 #[tactic(auto, using(crate::proofs::Quoting::quoted_empty, crate::proofs::Quoting::quoted_some))]
 fn is_quoted(text: &[u8]) -> bool
     ensures { result ≡ quoted_of text.now }
@@ -66,7 +66,7 @@ fn push_field<S: Sink>(sink: &mut S, cell: View<'_>) -> Result<(), DeviceFault>
     }
 }
 
-/// Pushes a heading that is not the first, behind the comma that parts it from the one before.
+/// Pushes a heading that is not the first, after a comma.
 fn push_next_heading<S: Sink>(sink: &mut S, name: &str) -> Result<(), DeviceFault>
     ensures { Pushes (44 ∷ text_field name.now) result
         (S.written sink.old) (S.written sink.new) (S.failures sink.old) (S.failures sink.new) }
@@ -75,7 +75,7 @@ fn push_next_heading<S: Sink>(sink: &mut S, name: &str) -> Result<(), DeviceFaul
     push_text(sink, name.as_bytes())
 }
 
-/// Pushes headings, each behind a comma.
+/// Pushes headings, each after a comma.
 fn push_next_headings<S: Sink>(sink: &mut S, names: &[String<Memory>]) -> Result<(), DeviceFault>
     ensures { Pushes (flat_map (λ n. 44 ∷ text_field (string_bytes n)) names.now) result
         (S.written sink.old) (S.written sink.new) (S.failures sink.old) (S.failures sink.new) }
@@ -86,7 +86,7 @@ fn push_next_headings<S: Sink>(sink: &mut S, names: &[String<Memory>]) -> Result
     Ok(())
 }
 
-/// Pushes headings, parted by commas.
+/// Pushes headings, separated by commas.
 fn push_joined_headings<S: Sink>(sink: &mut S, names: &[String<Memory>]) -> Result<(), DeviceFault>
     ensures { Pushes (join_with_byte 44 (map text_field (map string_bytes names.now))) result
         (S.written sink.old) (S.written sink.new) (S.failures sink.old) (S.failures sink.new) }
@@ -109,7 +109,7 @@ fn push_headings<S: Sink>(sink: &mut S, names: &[String<Memory>]) -> Result<(), 
     push_all(sink, b"\r\n")
 }
 
-/// Pushes a value that is not its row's first, behind the comma that parts it from the one before.
+/// Pushes a value that is not the first of its row, after a comma.
 fn push_next_field<S: Sink>(sink: &mut S, cell: &Value) -> Result<(), DeviceFault>
     requires { IsPrintable (datum_of_value cell.now) }
     ensures { Pushes (44 ∷ field (datum_of_value cell.now)) result
@@ -119,7 +119,7 @@ fn push_next_field<S: Sink>(sink: &mut S, cell: &Value) -> Result<(), DeviceFaul
     push_field(sink, cell.view())
 }
 
-/// Pushes values, each behind a comma.
+/// Pushes values, each after a comma.
 fn push_next_fields<S: Sink>(sink: &mut S, cells: &[Value]) -> Result<(), DeviceFault>
     requires { All (λ v. IsPrintable (datum_of_value v)) cells.now }
     ensures { Pushes (flat_map (λ v. 44 ∷ field (datum_of_value v)) cells.now) result
@@ -131,7 +131,7 @@ fn push_next_fields<S: Sink>(sink: &mut S, cells: &[Value]) -> Result<(), Device
     Ok(())
 }
 
-/// Pushes values, parted by commas.
+/// Pushes values, separated by commas.
 fn push_joined_fields<S: Sink>(sink: &mut S, cells: &[Value]) -> Result<(), DeviceFault>
     requires { All (λ v. IsPrintable (datum_of_value v)) cells.now }
     ensures { Pushes (join_with_byte 44 (map field (row_of cells.now))) result
@@ -146,7 +146,7 @@ fn push_joined_fields<S: Sink>(sink: &mut S, cells: &[Value]) -> Result<(), Devi
     }
 }
 
-/// Pushes a row's line.
+/// Pushes the line of a row.
 fn push_row<S: Sink>(sink: &mut S, cells: &[Value]) -> Result<(), DeviceFault>
     requires { All (λ v. IsPrintable (datum_of_value v)) cells.now }
     ensures { Pushes (csv_line (map field (row_of cells.now))) result
@@ -156,7 +156,7 @@ fn push_row<S: Sink>(sink: &mut S, cells: &[Value]) -> Result<(), DeviceFault>
     push_all(sink, b"\r\n")
 }
 
-/// Pushes the lines of rows.
+/// Pushes the lines of the rows.
 fn push_rows<S: Sink>(sink: &mut S, rows: &[Vec<Value, Memory>]) -> Result<(), DeviceFault>
     requires { All (λ r. All (λ v. IsPrintable (datum_of_value v)) r.items) rows.now }
     ensures { Pushes (flat_map (λ r. csv_line (map field (row_of r.items))) rows.now) result
@@ -168,10 +168,10 @@ fn push_rows<S: Sink>(sink: &mut S, rows: &[Vec<Value, Memory>]) -> Result<(), D
     Ok(())
 }
 
-/// Pushes a table as comma-separated values by RFC 4180: a line of its headings and a line for each row, each ended by
-/// CR LF. NULL is an empty field; a text stands in `"`, each `"` in it doubled, where it is empty or holds a comma, a
-/// `"`, a CR or a LF, and bare elsewhere; numbers, days and moments stand as `write_cell` pushes them. It takes no
-/// memory. After an error a beginning of the text was pushed.
+/// Pushes a table as comma-separated values (RFC 4180): a line of its headings and a line for each row, each ended by
+/// CR LF. NULL is an empty field. A text is in `"`, with each `"` in it doubled, if it is empty or contains a comma,
+/// `"`, CR or LF; other texts are bare. Numbers, dates and timestamps are written as by `write_cell`. Allocates no
+/// memory. After an error a prefix of the text has been pushed.
 pub fn write_csv_table<S: Sink>(sink: &mut S, table: &ResultTable) -> Result<(), DeviceFault>
     requires { ArePrintable (table_rows table.now) }
     ensures { Pushes (csv_text (headings_of table.now) (table_rows table.now)) result

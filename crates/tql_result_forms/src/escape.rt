@@ -1,4 +1,4 @@
-//! Strings of JSON: texts in quotes, with what may not stand there escaped.
+//! JSON strings: texts in quotes, with the necessary escapes.
 ghost use Rattle.std.specs.Prelude.{◌≡◌, ◌<◌, ◌||◌, ◌==◌, ◌∷◌, ◌++◌, nat_lt, IfSome, MatchOption, length, position};
 ghost use Rattle.std.specs.List.{flat_map};
 ghost use Rattle.tql_result_laws.specs.Json.{hex_digit as hex_digit_of, control, escaped, string};
@@ -9,7 +9,7 @@ use tql_result::device::DeviceFault;
 use tql_result::pieces::push_all;
 use tql_result::sink::Sink;
 
-/// A digit of base 16.
+/// Returns a hexadecimal digit.
 fn hex_digit(digit: u8) -> u8
     requires { digit < 16 }
     ensures { result ≡ hex_digit_of digit }
@@ -21,7 +21,7 @@ fn hex_digit(digit: u8) -> u8
     }
 }
 
-/// The escape of a control byte.
+/// Returns the escape of a control byte.
 fn control_bytes(byte: u8) -> [u8; 6]
     ensures { result ≡ control byte }
 {
@@ -42,7 +42,7 @@ fn has_escape(byte: u8) -> bool
     byte == b'"' || byte == b'\\' || byte < 32
 }
 
-/// The place of the first byte that is escaped, if there is one.
+/// Returns the index of the first byte that needs an escape, if any.
 fn first_place(text: &[u8]) -> Option<usize>
     ensures place { result ≡ position escape_of text.now }
     ensures within { IfSome result (λ i. i < length text.now) }
@@ -50,7 +50,7 @@ fn first_place(text: &[u8]) -> Option<usize>
     text.iter().position(|byte| has_escape(*byte))
 }
 
-/// What stands before the first byte that is escaped, that byte, and what stands behind it.
+/// Returns the part before the first byte that needs an escape, that byte, and the part after it.
 fn parts_at_escape(text: &[u8]) -> Option<(&[u8], u8, &[u8])>
     ensures parts { MatchOption result (flat_map escaped text.now ≡ text.now)
         (λ p. flat_map escaped text.now ≡ p.0.now ++ (escaped p.1 ++ flat_map escaped p.2.now)) }
@@ -61,7 +61,7 @@ fn parts_at_escape(text: &[u8]) -> Option<(&[u8], u8, &[u8])>
     Some((front, back[0], &back[1..]))
 }
 
-/// Pushes a byte of a string.
+/// Pushes a byte of a string, escaped if necessary.
 fn push_escaped<S: Sink>(sink: &mut S, byte: u8) -> Result<(), DeviceFault>
     ensures { Pushes (escaped byte) result
         (S.written sink.old) (S.written sink.new) (S.failures sink.old) (S.failures sink.new) }
@@ -75,7 +75,7 @@ fn push_escaped<S: Sink>(sink: &mut S, byte: u8) -> Result<(), DeviceFault>
     }
 }
 
-/// Pushes the bytes of a string.
+/// Pushes the bytes of a string, escaped where necessary.
 fn push_escapes<S: Sink>(sink: &mut S, text: &[u8]) -> Result<(), DeviceFault>
     ensures { Pushes (flat_map escaped text.now) result
         (S.written sink.old) (S.written sink.new) (S.failures sink.old) (S.failures sink.new) }
@@ -89,7 +89,7 @@ fn push_escapes<S: Sink>(sink: &mut S, text: &[u8]) -> Result<(), DeviceFault>
     push_all(sink, rest)
 }
 
-/// Pushes a text as a string.
+/// Pushes a text as a JSON string.
 pub(crate) fn push_string<S: Sink>(sink: &mut S, text: &[u8]) -> Result<(), DeviceFault>
     ensures { Pushes (string text.now) result
         (S.written sink.old) (S.written sink.new) (S.failures sink.old) (S.failures sink.new) }

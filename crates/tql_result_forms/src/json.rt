@@ -25,7 +25,8 @@ use tql_result::sink::Sink;
 use tql_value::refusal::Refusal;
 use tql_value::value::ResultTable;
 
-/// What is known of the fault of a refused statement besides its number, text and line. What is not known is `None`.
+/// The known details of the fault of a refused statement, in addition to its number, text and line. Unknown ones are
+/// `None`.
 #[derive(Clone, Copy, Debug)]
 pub struct Diagnostic<'a> {
     /// The column on the line, counted in characters from 1.
@@ -34,16 +35,16 @@ pub struct Diagnostic<'a> {
     pub detail: Option<&'a str>,
     /// What to write instead.
     pub hint: Option<&'a str>,
-    /// The name of the constraint that a row fails.
+    /// The name of the constraint that a row violates.
     pub constraint: Option<&'a str>,
-    /// The names of the columns in which it fails.
+    /// The names of the columns in which the row fails.
     pub columns: Option<&'a [String<Memory>]>,
     /// The number of the row in the statement, counted from 1.
     pub row: Option<u64>,
 }
 
 impl Diagnostic<'_> {
-    /// Nothing is known.
+    /// A diagnostic without any details.
     pub const NONE: Diagnostic<'static> = Diagnostic {
         column: None,
         detail: None,
@@ -54,7 +55,7 @@ impl Diagnostic<'_> {
     };
 }
 
-/// The words of a refusal, without its number.
+/// Returns the words of a refusal, without its number.
 fn words(refusal: Refusal) -> &'static [u8]
     ensures { result.now ≡ drop 4 (wording (refusal_of refusal)) }
 {
@@ -64,7 +65,7 @@ fn words(refusal: Refusal) -> &'static [u8]
     }
 }
 
-/// Pushes the beginning of an object: the number of the statement, and its line.
+/// Pushes the beginning of an object: the statement number and the line.
 fn push_place<S: Sink>(sink: &mut S, statement: u64, line: u64) -> Result<(), DeviceFault>
     ensures { Pushes (123 ∷ member (codes "statement") (decimal statement)
         ++ 44 ∷ 32 ∷ member (codes "line") (decimal line)) result
@@ -76,7 +77,7 @@ fn push_place<S: Sink>(sink: &mut S, statement: u64, line: u64) -> Result<(), De
     push_decimal(sink, line)
 }
 
-/// Pushes the name of a member, behind a comma.
+/// Pushes a comma and the name of a member.
 fn push_name<S: Sink>(sink: &mut S, name: &[u8]) -> Result<(), DeviceFault>
     ensures { Pushes (44 ∷ 32 ∷ (string name.now ++ (58 ∷ 32 ∷ []))) result
         (S.written sink.old) (S.written sink.new) (S.failures sink.old) (S.failures sink.new) }
@@ -86,7 +87,7 @@ fn push_name<S: Sink>(sink: &mut S, name: &[u8]) -> Result<(), DeviceFault>
     push_all(sink, b": ")
 }
 
-/// Pushes a number with its name, where it is known.
+/// Pushes a comma, a name and a number, if the number is known.
 fn push_number<S: Sink>(sink: &mut S, name: &[u8], number: Option<u64>) -> Result<(), DeviceFault>
     ensures { Pushes (flat_map (λ m. 44 ∷ 32 ∷ m) (known name.now decimal number [])) result
         (S.written sink.old) (S.written sink.new) (S.failures sink.old) (S.failures sink.new) }
@@ -100,7 +101,7 @@ fn push_number<S: Sink>(sink: &mut S, name: &[u8], number: Option<u64>) -> Resul
     }
 }
 
-/// Pushes a text with its name, where it is known.
+/// Pushes a comma, a name and a text, if the text is known.
 fn push_text<S: Sink>(sink: &mut S, name: &[u8], text: Option<&str>) -> Result<(), DeviceFault>
     ensures { Pushes (flat_map (λ m. 44 ∷ 32 ∷ m) (known name.now string (option_map (λ s. s.now) text.entry) []))
         result (S.written sink.old) (S.written sink.new) (S.failures sink.old) (S.failures sink.new) }
@@ -114,7 +115,7 @@ fn push_text<S: Sink>(sink: &mut S, name: &[u8], text: Option<&str>) -> Result<(
     }
 }
 
-/// Pushes the names of the columns of a fault, where they are known.
+/// Pushes the names of the columns of a fault, if they are known.
 fn push_columns<S: Sink>(
     sink: &mut S,
     columns: Option<&[String<Memory>]>,
@@ -132,7 +133,7 @@ fn push_columns<S: Sink>(
     }
 }
 
-/// Pushes what a reply says that something is done.
+/// Pushes the members of the reply to a statement that was executed.
 fn push_done<S: Sink>(sink: &mut S, verb: Verb, count: Option<u64>) -> Result<(), DeviceFault>
     ensures { Pushes (flat_map (λ m. 44 ∷ 32 ∷ m) (done_members (plain_verb verb) count)) result
         (S.written sink.old) (S.written sink.new) (S.failures sink.old) (S.failures sink.new) }
@@ -166,7 +167,7 @@ fn push_words<S: Sink>(sink: &mut S, refusal: Refusal) -> Result<(), DeviceFault
     push_string(sink, words(refusal))
 }
 
-/// Pushes where the fault of a refusal is, what is wrong there, and what to write.
+/// Pushes the place of a fault, what is wrong there, and what to write instead, as far as they are known.
 fn push_fault_place<S: Sink>(sink: &mut S, diagnostic: Diagnostic<'_>) -> Result<(), DeviceFault>
     ensures { Pushes (flat_map (λ m. 44 ∷ 32 ∷ m) (place_members (fault_of diagnostic.entry))) result
         (S.written sink.old) (S.written sink.new) (S.failures sink.old) (S.failures sink.new) }
@@ -176,7 +177,7 @@ fn push_fault_place<S: Sink>(sink: &mut S, diagnostic: Diagnostic<'_>) -> Result
     push_text(sink, b"hint", diagnostic.hint)
 }
 
-/// Pushes which constraint a row fails, in which columns, and which row that is.
+/// Pushes the constraint that a row violates, the columns, and the number of the row, as far as they are known.
 fn push_fault_row<S: Sink>(sink: &mut S, diagnostic: Diagnostic<'_>) -> Result<(), DeviceFault>
     ensures { Pushes (flat_map (λ m. 44 ∷ 32 ∷ m) (constraint_members (fault_of diagnostic.entry))) result
         (S.written sink.old) (S.written sink.new) (S.failures sink.old) (S.failures sink.new) }
@@ -186,7 +187,7 @@ fn push_fault_row<S: Sink>(sink: &mut S, diagnostic: Diagnostic<'_>) -> Result<(
     push_number(sink, b"row", diagnostic.row)
 }
 
-/// Pushes a refusal, and what is known of it.
+/// Pushes a refusal and the known details of its fault.
 fn push_refusal<S: Sink>(
     sink: &mut S,
     refusal: Refusal,
@@ -201,7 +202,7 @@ fn push_refusal<S: Sink>(
     push_fault_row(sink, diagnostic)
 }
 
-/// Pushes what a reply says.
+/// Pushes the members of a reply.
 fn push_reply<S: Sink>(
     sink: &mut S,
     reply: &Reply,
@@ -219,7 +220,7 @@ fn push_reply<S: Sink>(
     }
 }
 
-/// Pushes what an answer says.
+/// Pushes the members of an answer.
 fn push_answer<S: Sink>(
     sink: &mut S,
     answer: &Answer,
@@ -236,22 +237,22 @@ fn push_answer<S: Sink>(
     }
 }
 
-/// Pushes an answer as one JSON object on one line, by RFC 8259: the number of its statement, a line number, and what
-/// it says. The caller gives both numbers, counted from 1; the line is that of the fault where it is known.
+/// Pushes an answer as one JSON object (RFC 8259) on one line: the statement number, a line number, and the contents of
+/// the answer. The caller gives both numbers, counted from 1. The line is that of the fault if it is known.
 ///
-/// - `reply` and `count`: the words of a statement that is done, and how many rows it changed, where these are counted.
-///   A statement that was only checked and has no fault has the reply `OK`.
+/// - `reply` and `count`: the words of a statement that was executed, and the number of rows that it changed, for
+/// statements that count rows. A statement that was only checked and has no fault has the reply `OK`.
 /// - `columns` and `rows`: the headings of a table, and its rows.
-/// - `refused` and `text`: the number of a refusal and its words. `column`, `detail`, `hint`, `constraint`, `columns`
-///   and `row` follow, each where `diagnostic` has it. Other answers ignore `diagnostic`.
+/// - `refused` and `text`: the number of a refusal and its words. The known ones of `column`, `detail`, `hint`,
+/// `constraint`, `columns` and `row` in `diagnostic` follow. Other answers ignore `diagnostic`.
 ///
-/// A number is a JSON number, NULL is `null`, and a text is a string. A day is the string `YYYY-MM-DD`, and a moment is
-/// the string `YYYY-MM-DD HH:MM:SS`, with a point and six digits where its microseconds are not zero: the literals
-/// `DATE '..'` and `TIMESTAMP '..'` read them. It takes no memory.
+/// A number is a JSON number, NULL is `null`, and a text is a string. A date is the string `YYYY-MM-DD`. A timestamp is
+/// the string `YYYY-MM-DD HH:MM:SS`, followed by a point and six digits unless its microseconds are zero. The literals
+/// `DATE '..'` and `TIMESTAMP '..'` accept these strings. Allocates no memory.
 ///
 /// # Errors
 ///
-/// Fails where the sink fails; a beginning of the text was pushed then.
+/// Fails if the sink fails. A prefix of the text has then been pushed.
 pub fn write_json_answer<S: Sink>(
     sink: &mut S,
     statement: u64,

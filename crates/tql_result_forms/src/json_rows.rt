@@ -1,4 +1,4 @@
-//! Headings, values and rows as lists of JSON.
+//! Headings, values and rows as JSON arrays.
 ghost use Rattle.std.specs.Prelude.{◌≡◌, ◌∷◌, ◌++◌, All, map, string_bytes};
 ghost use Rattle.std.specs.List.{flat_map};
 ghost use Rattle.tql_result_laws.specs.Json.{string, in_quotes, json_value, parted, array, row_array};
@@ -17,7 +17,7 @@ use tql_result::point::{push_day, push_moment};
 use tql_result::sink::Sink;
 use tql_value::value::{Value, View};
 
-/// Pushes a day as a string.
+/// Pushes a date as a JSON string.
 fn push_day_string<S: Sink>(sink: &mut S, day: i64) -> Result<(), DeviceFault>
     requires { IsDay day }
     ensures { Pushes (in_quotes (cell_text (Day day))) result
@@ -28,7 +28,7 @@ fn push_day_string<S: Sink>(sink: &mut S, day: i64) -> Result<(), DeviceFault>
     push_all(sink, b"\"")
 }
 
-/// Pushes a moment as a string.
+/// Pushes a timestamp as a JSON string.
 fn push_moment_string<S: Sink>(sink: &mut S, moment: i64) -> Result<(), DeviceFault>
     requires { IsMoment moment }
     ensures { Pushes (in_quotes (cell_text (Moment moment))) result
@@ -39,7 +39,7 @@ fn push_moment_string<S: Sink>(sink: &mut S, moment: i64) -> Result<(), DeviceFa
     push_all(sink, b"\"")
 }
 
-/// Pushes a value.
+/// Pushes a value as JSON.
 pub(crate) fn push_value<S: Sink>(sink: &mut S, cell: View<'_>) -> Result<(), DeviceFault>
     requires { IsPrintable (datum_of_view cell) }
     ensures { Pushes (json_value (datum_of_view cell.entry)) result
@@ -54,7 +54,7 @@ pub(crate) fn push_value<S: Sink>(sink: &mut S, cell: View<'_>) -> Result<(), De
     }
 }
 
-/// Pushes a name that is not the first, behind the comma that parts it from the one before.
+/// Pushes a name that is not the first, after a comma and a blank.
 fn push_next_name<S: Sink>(sink: &mut S, name: &str) -> Result<(), DeviceFault>
     ensures { Pushes (44 ∷ 32 ∷ string name.now) result
         (S.written sink.old) (S.written sink.new) (S.failures sink.old) (S.failures sink.new) }
@@ -63,7 +63,7 @@ fn push_next_name<S: Sink>(sink: &mut S, name: &str) -> Result<(), DeviceFault>
     push_string(sink, name.as_bytes())
 }
 
-/// Pushes names, each behind a comma.
+/// Pushes names, each after a comma.
 fn push_next_names<S: Sink>(sink: &mut S, names: &[String<Memory>]) -> Result<(), DeviceFault>
     ensures { Pushes (flat_map (λ n. 44 ∷ 32 ∷ string (string_bytes n)) names.now) result
         (S.written sink.old) (S.written sink.new) (S.failures sink.old) (S.failures sink.new) }
@@ -74,7 +74,7 @@ fn push_next_names<S: Sink>(sink: &mut S, names: &[String<Memory>]) -> Result<()
     Ok(())
 }
 
-/// Pushes names, parted by commas.
+/// Pushes names, separated by commas.
 fn push_parted_names<S: Sink>(sink: &mut S, names: &[String<Memory>]) -> Result<(), DeviceFault>
     ensures { Pushes (parted (map string (map string_bytes names.now))) result
         (S.written sink.old) (S.written sink.new) (S.failures sink.old) (S.failures sink.new) }
@@ -88,7 +88,7 @@ fn push_parted_names<S: Sink>(sink: &mut S, names: &[String<Memory>]) -> Result<
     }
 }
 
-/// Pushes the list of some names.
+/// Pushes an array of names.
 pub(crate) fn push_names<S: Sink>(sink: &mut S, names: &[String<Memory>]) -> Result<(), DeviceFault>
     ensures { Pushes (array (map string (map string_bytes names.now))) result
         (S.written sink.old) (S.written sink.new) (S.failures sink.old) (S.failures sink.new) }
@@ -98,7 +98,7 @@ pub(crate) fn push_names<S: Sink>(sink: &mut S, names: &[String<Memory>]) -> Res
     push_all(sink, b"]")
 }
 
-/// Pushes a value that is not its row's first, behind the comma that parts it from the one before.
+/// Pushes a value that is not the first of its row, after a comma and a blank.
 fn push_next_value<S: Sink>(sink: &mut S, cell: &Value) -> Result<(), DeviceFault>
     requires { IsPrintable (datum_of_value cell.now) }
     ensures { Pushes (44 ∷ 32 ∷ json_value (datum_of_value cell.now)) result
@@ -108,7 +108,7 @@ fn push_next_value<S: Sink>(sink: &mut S, cell: &Value) -> Result<(), DeviceFaul
     push_value(sink, cell.view())
 }
 
-/// Pushes values, each behind a comma.
+/// Pushes values, each after a comma.
 fn push_next_values<S: Sink>(sink: &mut S, cells: &[Value]) -> Result<(), DeviceFault>
     requires { All (λ v. IsPrintable (datum_of_value v)) cells.now }
     ensures { Pushes (flat_map (λ v. 44 ∷ 32 ∷ json_value (datum_of_value v)) cells.now) result
@@ -120,7 +120,7 @@ fn push_next_values<S: Sink>(sink: &mut S, cells: &[Value]) -> Result<(), Device
     Ok(())
 }
 
-/// Pushes values, parted by commas.
+/// Pushes values, separated by commas.
 fn push_parted_values<S: Sink>(sink: &mut S, cells: &[Value]) -> Result<(), DeviceFault>
     requires { All (λ v. IsPrintable (datum_of_value v)) cells.now }
     ensures { Pushes (parted (map json_value (row_of cells.now))) result
@@ -135,7 +135,7 @@ fn push_parted_values<S: Sink>(sink: &mut S, cells: &[Value]) -> Result<(), Devi
     }
 }
 
-/// Pushes a row as the list of its values.
+/// Pushes a row as an array of its values.
 fn push_row<S: Sink>(sink: &mut S, cells: &[Value]) -> Result<(), DeviceFault>
     requires { All (λ v. IsPrintable (datum_of_value v)) cells.now }
     ensures { Pushes (row_array (row_of cells.now)) result
@@ -146,7 +146,7 @@ fn push_row<S: Sink>(sink: &mut S, cells: &[Value]) -> Result<(), DeviceFault>
     push_all(sink, b"]")
 }
 
-/// Pushes a row that is not the first, behind the comma that parts it from the one before.
+/// Pushes a row that is not the first, after a comma and a blank.
 fn push_next_row<S: Sink>(sink: &mut S, cells: &[Value]) -> Result<(), DeviceFault>
     requires { All (λ v. IsPrintable (datum_of_value v)) cells.now }
     ensures { Pushes (44 ∷ 32 ∷ row_array (row_of cells.now)) result
@@ -156,7 +156,7 @@ fn push_next_row<S: Sink>(sink: &mut S, cells: &[Value]) -> Result<(), DeviceFau
     push_row(sink, cells)
 }
 
-/// Pushes rows, each behind a comma.
+/// Pushes rows, each after a comma.
 fn push_next_rows<S: Sink>(sink: &mut S, rows: &[Vec<Value, Memory>]) -> Result<(), DeviceFault>
     requires { All (λ r. All (λ v. IsPrintable (datum_of_value v)) r.items) rows.now }
     ensures { Pushes (flat_map (λ r. 44 ∷ 32 ∷ row_array (row_of r.items)) rows.now) result
@@ -168,7 +168,7 @@ fn push_next_rows<S: Sink>(sink: &mut S, rows: &[Vec<Value, Memory>]) -> Result<
     Ok(())
 }
 
-/// Pushes rows, parted by commas.
+/// Pushes rows, separated by commas.
 fn push_parted_rows<S: Sink>(sink: &mut S, rows: &[Vec<Value, Memory>]) -> Result<(), DeviceFault>
     requires { All (λ r. All (λ v. IsPrintable (datum_of_value v)) r.items) rows.now }
     ensures { Pushes (parted (map row_array (map (λ r. row_of r.items) rows.now))) result
@@ -183,7 +183,7 @@ fn push_parted_rows<S: Sink>(sink: &mut S, rows: &[Vec<Value, Memory>]) -> Resul
     }
 }
 
-/// Pushes the list of some rows.
+/// Pushes an array of rows.
 pub(crate) fn push_rows<S: Sink>(
     sink: &mut S,
     rows: &[Vec<Value, Memory>],

@@ -27,7 +27,7 @@ fn push_member<S: Sink>(sink: &mut S, name: &str, cell: View<'_>) -> Result<(), 
     push_value(sink, cell)
 }
 
-/// Pushes a key and its value, with what stands before them.
+/// Pushes `front`, a key and its value.
 fn push_next_member<S: Sink>(
     sink: &mut S,
     front: &[u8],
@@ -42,7 +42,7 @@ fn push_next_member<S: Sink>(
     push_member(sink, name, cell)
 }
 
-/// Pushes the members of a row, each value under the heading of its column.
+/// Pushes the members of a row, each with the heading of its column as the key.
 fn push_members<S: Sink>(
     sink: &mut S,
     names: &[String<Memory>],
@@ -75,7 +75,7 @@ fn push_object<S: Sink>(
     push_all(sink, b"}\n")
 }
 
-/// Pushes the lines of rows.
+/// Pushes the lines of the rows.
 fn push_objects<S: Sink>(
     sink: &mut S,
     names: &[String<Memory>],
@@ -91,13 +91,12 @@ fn push_objects<S: Sink>(
     Ok(())
 }
 
-/// Pushes the rows of a table as JSON Lines: each row is one object, by RFC 8259, on one line. Its keys are the
-/// headings in their order, and its values are those of `write_json_answer`. A table without rows has no text. It takes
-/// no memory.
+/// Pushes the rows of a table as JSON Lines: each row is one object (RFC 8259) on one line. Its keys are the headings
+/// in order, and its values are as in `write_json_answer`. A table without rows has an empty text. Allocates no memory.
 ///
 /// # Errors
 ///
-/// Fails where the sink fails; a beginning of the text was pushed then.
+/// Fails if the sink fails. A prefix of the text has then been pushed.
 pub fn write_json_rows<S: Sink>(sink: &mut S, table: &ResultTable) -> Result<(), DeviceFault>
     requires { ArePrintable (table_rows table.now) }
     ensures { Pushes (jsonl_text (headings_of table.now) (table_rows table.now)) result

@@ -1,4 +1,4 @@
-//! Two more texts of answers, pushed into a sink: comma-separated values, and JSON, one object a line.
+//! Other formats of answers, pushed into a sink: comma-separated values, JSON, and JSON Lines.
 #![tactic(auto)]
 
 pub mod csv;

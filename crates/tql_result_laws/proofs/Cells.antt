@@ -1,4 +1,4 @@
--- Printed values and headings, each before what parts it from the next.
+-- Printed values and headings, each before its separator.
 use Rattle.std.proofs.Common.{◌≡◌, ℕ, suc, ◌+◌, ◌/◌, ◌%◌, ◌^◌, ◌<◌, List, [], ◌∷◌, ◌++◌, true, false, refl}
 use Rattle.std.proofs.Common.{sym, ◌∙◌, ap, arith, length, get_or, take, drop, decimal, inl, inr, ◌⊎◌, IsTrue}
 use Rattle.std.proofs.lemmas.Bool.{cases_Bool, eqb-true}
@@ -23,14 +23,15 @@ use Rattle.tql_result_laws.proofs.Dates.{micros_short, moment_same, time_same}
 use Rattle.tql_result_laws.proofs.Words.{is_word, is_stop, apart, all_weaker, all_append, date_word}
 use Rattle.tql_result_laws.proofs.Words.{time_word, signed_word, digit_at, decimal_digits}
 
--- a number of 64 bits
+-- a number that fits in 64 bits
 pub fits_mag : (n : ℤ) → IsTrue (fits n) → mag n < 2 ^ 63
 fits_mag (pos n) h = grind (arith, nat_tests, ints)
 fits_mag (negsuc n) h = grind (arith, nat_tests, ints)
 
--- ---- which kind of value a text is of
+-- ---- the kind of value that a text comes from
 
--- the rank of the value, by some of its bytes: NULL, a quote, the hyphen behind a year, the blank behind a date
+-- the rank of the kind of a value, from some of its bytes: NULL, a quote, the hyphen after a year, the blank after a
+-- date
 abbrev pub tag : List ℕ → ℕ
 tag w =
     if get_or w 0 0 == 78 then 0
@@ -88,7 +89,7 @@ tag_is (Text t) h = refl
 tag_is (Day d) h = tag_day (day_parts d) (day_short d h)
 tag_is (Moment m) h = tag_moment (moment_day m) (time_text (moment_micros m)) (moment_short m h)
 
--- ---- values of one text
+-- ---- values with the same text
 
 texts_same : (s t : List ℕ) → quoted 39 s ≡ quoted 39 t → s ≡ t
 texts_same s t e =
@@ -140,9 +141,9 @@ cells_same (Moment x) (Text t) ha hb r same = absurd (omega arith)
 cells_same (Moment x) (Day e) ha hb r same = absurd (omega arith)
 cells_same (Moment x) (Moment y) ha hb r same = ap Moment (moments_same x y ha hb same)
 
--- ---- values, cut off
+-- ---- values can be cut off
 
--- a value stands in quotes, or is a word
+-- the text of a value is in quotes, or is a word
 abbrev pub CellForm : Datum → Type 0
 CellForm d = ((t : List ℕ) × (d ≡ Text t)) ⊎ ((list_all is_word (cell_text d) ≡ true) × (0 < length (cell_text d)))
 
@@ -203,7 +204,7 @@ cell_cut a b u v ka kb su sv e = elim (cell_form a ka) [
   ]
 ]
 
--- a value begins with a byte of a word, or with a quote
+-- a value begins with a byte of a word or with a quote
 pub cell_begins : (d : Datum) (u : List ℕ) → IsKept d → begins (λ b. is_word b || (b == 39)) (cell_text d ++ u) ≡ true
 cell_begins d u h = elim (cell_form d h) [
   | inl t ↦ ap (λ x. begins (λ b. is_word b || (b == 39)) (cell_text x ++ u)) t.1

@@ -8,7 +8,7 @@ use Rattle.std.specs.List.{flat_map, join_with_byte, list_all}
 use Rattle.tql_spec.specs.Text.{doubled, quoted}
 use Rattle.tql_result.proofs.Joining.{joined_map}
 
--- both of two tests
+-- the parts of a conjunction of two tests
 pub and_left : (a b : Bool) → (a && b) ≡ true → a ≡ true
 and_left true b h = refl
 and_left false b h = h
@@ -17,12 +17,12 @@ pub and_right : (a b : Bool) → (a && b) ≡ true → b ≡ true
 and_right true b h = h
 and_right false b h = absurd (cc)
 
--- two tests that hold
+-- the conjunction of two tests that succeed
 pub and_both : (a b : Bool) → a ≡ true → b ≡ true → (a && b) ≡ true
 and_both true b h k = k
 and_both false b h k = h
 
--- what holds of each of a list
+-- a property of each element of a list
 abbrev pub Each : {A : Type 0} → (A → Type 0) → List A → Type 0
 Each P [] = Unit {0}
 Each P (x ∷ xs) = P x × Each P xs
@@ -39,7 +39,7 @@ pub each_both : {A : Type 0} (P Q : A → Type 0) (xs : List A) → Each P xs �
 each_both P Q [] h k = tt
 each_both P Q (x ∷ xs) h k = ((h.0, k.0), each_both P Q xs h.1 k.1)
 
--- there is a first byte, and it passes a test
+-- the first byte exists and passes a test
 abbrev pub begins : (ℕ → Bool) → List ℕ → Bool
 begins p [] = false
 begins p (b ∷ bs) = p b
@@ -48,12 +48,12 @@ pub begins_append : (p : ℕ → Bool) (w u : List ℕ) → 0 < length w → lis
 begins_append p [] u some h = absurd (omega arith)
 begins_append p (b ∷ w) u some h = and_left _ _ h
 
--- the same front cancels
+-- equal prefixes can be cancelled
 pub cancel : (w u v : List ℕ) → w ++ u ≡ w ++ v → u ≡ v
 cancel [] u v e = e
 cancel (b ∷ w) u v e = let rest : w ++ u ≡ w ++ v = cc in cancel w u v rest
 
--- words of bytes that pass a test, each before a byte that does not
+-- words whose bytes pass a test, each before a byte that does not
 pub word_cut : (p stop : ℕ → Bool) (apart : (b : ℕ) → p b ≡ true → stop b ≡ true → ⊥) (w x u v : List ℕ)
     → list_all p w ≡ true → list_all p x ≡ true → begins stop u ≡ true → begins stop v ≡ true → w ++ u ≡ x ++ v
     → (w ≡ x) × (u ≡ v)
@@ -74,7 +74,7 @@ word_cut p stop apart (a ∷ w) (b ∷ x) u v hw hx su sv e =
 abbrev pub NoQuote : ℕ → List ℕ → Type 0
 NoQuote q u = (w : List ℕ) → u ≡ q ∷ w → ⊥
 
--- what begins with another byte
+-- bytes that begin with a different byte
 pub no_quote : (stop : ℕ → Bool) (q : ℕ) → stop q ≡ false → (u : List ℕ) → begins stop u ≡ true → NoQuote q u
 no_quote stop q other u s w e = let yes : stop q ≡ true = ap (begins stop) (sym e) ∙ s in absurd (cc)
 
@@ -84,7 +84,7 @@ doubled_hit q x xs u e = rw e refl
 doubled_miss : (q x : ℕ) (xs u : List ℕ) → (x == q) ≡ false → doubled q (x ∷ xs) ++ u ≡ x ∷ (doubled q xs ++ u)
 doubled_miss q x xs u e = rw e refl
 
--- an end where the other goes on
+-- a text cannot end where the other continues
 doubled_ends : (q y : ℕ) (ys u v : List ℕ) → NoQuote q u → q ∷ u ≡ doubled q (y ∷ ys) ++ (q ∷ v) → ⊥
 doubled_ends q y ys u v nu e = elim (cases_Bool (y == q)) [
   | inl hit ↦
@@ -97,7 +97,7 @@ doubled_ends q y ys u v nu e = elim (cases_Bool (y == q)) [
       let hit : (y == q) ≡ true = eq-eqb y q same in absurd (cc)
 ]
 
--- a byte more on both sides
+-- one more byte on both sides
 doubled_more : (q x y : ℕ) (xs ys u v : List ℕ) → NoQuote q u → NoQuote q v
     → doubled q (x ∷ xs) ++ (q ∷ u) ≡ doubled q (y ∷ ys) ++ (q ∷ v)
     → (x ≡ y) × (doubled q xs ++ (q ∷ u) ≡ doubled q ys ++ (q ∷ v))
@@ -126,7 +126,7 @@ doubled_more q x y xs ys u v nu nv e = elim (cases_Bool (x == q)) [
   ]
 ]
 
--- the same bytes, each quote twice, and then a quote that ends them
+-- texts with doubled quotes, each closed by a quote, can be cut off
 pub doubled_cut : (q : ℕ) (xs ys u v : List ℕ) → NoQuote q u → NoQuote q v
     → doubled q xs ++ (q ∷ u) ≡ doubled q ys ++ (q ∷ v) → (xs ≡ ys) × (u ≡ v)
 doubled_cut q [] [] u v nu nv e = (refl, cc)
@@ -139,7 +139,7 @@ doubled_cut q (x ∷ xs) (y ∷ ys) u v nu nv e =
     let others : xs ≡ ys = cut.0 in
     let whole : (x ∷ xs) ≡ (y ∷ ys) = cc in (whole, cut.1)
 
--- texts in quotes, each before a byte that is no quote
+-- quoted texts, each before a byte other than the quote, can be cut off
 pub quoted_cut : (q : ℕ) (s t u v : List ℕ) → NoQuote q u → NoQuote q v → quoted q s ++ u ≡ quoted q t ++ v
     → (s ≡ t) × (u ≡ v)
 quoted_cut q s t u v nu nv e =
@@ -151,18 +151,18 @@ quoted_cut q s t u v nu nv e =
 
 -- ---- texts of the elements of a list
 
--- texts that can be cut off, each before a byte that stops them
+-- texts that can be cut off, each before a byte that ends them
 abbrev pub Cuts : {A : Type 0} → (A → Type 0) → (A → List ℕ) → (ℕ → Bool) → Type 0
 Cuts {A} P f stop = (a b : A) (u v : List ℕ) → P a → P b → begins stop u ≡ true → begins stop v ≡ true
     → f a ++ u ≡ f b ++ v → (a ≡ b) × (u ≡ v)
 
--- what follows a text is stopped
+-- the bytes after a text begin with a byte that ends it
 tail_stops : {A : Type 0} (f : A → List ℕ) (stop : ℕ → Bool) (s e : ℕ) → stop s ≡ true → stop e ≡ true
     → (xs : List A) (u : List ℕ) → begins stop (flat_map (λ y. s ∷ f y) xs ++ (e ∷ u)) ≡ true
 tail_stops f stop s e hs he [] u = he
 tail_stops f stop s e hs he (x ∷ xs) u = hs
 
--- each text behind a byte, and another byte at the end
+-- texts, each after a separator, with a different byte at the end
 pub tails_cut : {A : Type 0} (P : A → Type 0) (f : A → List ℕ) (stop : ℕ → Bool) (s e : ℕ) → stop s ≡ true
     → stop e ≡ true → (s ≡ e → ⊥) → Cuts P f stop → (xs ys : List A) (u v : List ℕ) → Each P xs → Each P ys
     → flat_map (λ y. s ∷ f y) xs ++ (e ∷ u) ≡ flat_map (λ y. s ∷ f y) ys ++ (e ∷ v) → (xs ≡ ys) × (u ≡ v)
@@ -182,7 +182,7 @@ tails_cut P f stop s e hs he ne cut (x ∷ xs) (y ∷ ys) u v hx hy eq =
     let others : xs ≡ ys = behind.0 in
     let whole : (x ∷ xs) ≡ (y ∷ ys) = cc in (whole, behind.1)
 
--- a list that is not empty, of such texts
+-- a non-empty list of separated texts
 pub joined_cut : {A : Type 0} (P : A → Type 0) (f : A → List ℕ) (stop : ℕ → Bool) (s e : ℕ) → stop s ≡ true
     → stop e ≡ true → (s ≡ e → ⊥) → Cuts P f stop → (xs ys : List A) (u v : List ℕ) → 0 < length xs → 0 < length ys
     → Each P xs → Each P ys
@@ -207,11 +207,11 @@ joined_cut P f stop s e hs he ne cut (x ∷ xs) (y ∷ ys) u v lx ly hx hy eq =
 abbrev pub line_of : {A : Type 0} → (A → List ℕ) → ℕ → List ℕ → List A → List ℕ
 line_of f s ending r = join_with_byte s (map f r) ++ ending
 
--- a row that has a value, each of which can be cut off
+-- a non-empty row whose values can each be cut off
 abbrev pub IsRow : {A : Type 0} → (A → Type 0) → List A → Type 0
 IsRow P r = (0 < length r) × Each P r
 
--- bytes that no line begins
+-- bytes with which no line begins
 abbrev pub NoLine : {A : Type 0} → (A → Type 0) → (A → List ℕ) → ℕ → List ℕ → List ℕ → Type 0
 NoLine {A} P f s ending c = (r : List A) (u : List ℕ) → IsRow P r → line_of f s ending r ++ u ≡ c → ⊥
 

@@ -1,4 +1,4 @@
--- Days and moments by their texts.
+-- Dates and timestamps are determined by their texts.
 use Rattle.std.proofs.Common.{◌≡◌, ℕ, ◌+◌, ◌*◌, ◌/◌, ◌%◌, ◌<◌, ◌≤◌, List, [], ◌∷◌, ◌++◌, refl, sym, ◌∙◌}
 use Rattle.std.proofs.Common.{ap, arith, get_or, drop, nat_abs, inl, inr, false, true, ◌≤ℤ◌, ◌+ℤ◌, ◌-ℤ◌}
 use Rattle.std.proofs.Math.IntN as IntN
@@ -13,7 +13,7 @@ use Rattle.tql_value.proofs.DayNumbers.{IsCalendarDate, date_after_start-date, d
 use Rattle.tql_value.proofs.MomentNumbers.{moments_read_back}
 use Rattle.tql_result.proofs.Digits.{padded_two, padded_four, padded_six}
 
--- a year of four digits, a month and a day of two
+-- a year of at most four digits, and a month and a day of at most two
 pub record IsShort (p : Parts) : Type 0 where
   pub year : p.0 < 10000
   pub month : p.1 < 100
@@ -41,7 +41,7 @@ date_is p h =
     ∙ ap (λ l. (48 + p.0 / 1000 % 10) ∷ (48 + p.0 / 100 % 10) ∷ (48 + p.0 / 10 % 10) ∷ (48 + p.0 % 10) ∷ 45 ∷
     (48 + p.1 / 10 % 10) ∷ (48 + p.1 % 10) ∷ 45 ∷ l) (padded_two p.2 h.day)
 
--- numbers of the same digits
+-- numbers with the same digits are equal
 two_same : (n m : ℕ) → n < 100 → m < 100 → 48 + n / 10 % 10 ≡ 48 + m / 10 % 10 → 48 + n % 10 ≡ 48 + m % 10 → n ≡ m
 two_same n m hn hm tens units = omega arith
 
@@ -68,7 +68,7 @@ nat_abs-nonnegative : (z : ℤ) → pos 0 ≤ℤ z → pos (nat_abs z) ≡ z
 nat_abs-nonnegative (pos n) h = refl
 nat_abs-nonnegative (negsuc n) h = absurd (omega (arith, signed_arith))
 
--- a day is so many days after the first
+-- the number of a day, counted from the first day
 day_from_start : (d : ℤ) → IsDay d → pos (after_start start_offset d) ≡ d +ℤ pos start_offset
 day_from_start d h =
     let low = h.0 in
@@ -83,7 +83,7 @@ day_within d h =
 pub day_short : (d : ℤ) → IsDay d → IsShort (day_parts d)
 day_short d h = date_short (day_parts d) (date_after_start-date (after_start start_offset d) (day_within d h))
 
--- a day by its date
+-- a day is determined by its date
 day_is : (d : ℤ) → IsDay d
     → pos (days_after_start (day_parts d).0 (day_parts d).1 (day_parts d).2) -ℤ pos start_offset ≡ d
 day_is d h =
@@ -187,7 +187,7 @@ fraction_same n m hn hm e = elim (cases_Bool (n == 0)) [
   ]
 ]
 
--- the seconds of a day by their clock
+-- the seconds of a day are determined by their clock text
 clock_same : (s t : ℕ) (u v : List ℕ) → s < 86400 → t < 86400 → clock_bytes s u ≡ clock_bytes t v → s ≡ t
 clock_same s t u v hs ht e =
     let hs' : s / 3600 < 100 = omega arith in

@@ -18,18 +18,18 @@ use Rattle.tql_result_laws.proofs.Cells.{cell_form}
 use Rattle.tql_result_laws.proofs.Whole.{table_rows}
 use Rattle.tql_result_laws.proofs.Words.{is_word}
 
--- ---- fields by what they show
+-- ---- fields in terms of what they show
 
 -- the field that shows this
 abbrev pub field_of : Option (List ℕ) → List ℕ
 field_of None = []
 field_of (Some t) = text_field t
 
--- a byte that a bare field may hold
+-- a byte that a bare field may contain
 abbrev pub is_bare : ℕ → Bool
 is_bare b = not (is_sign b)
 
--- a byte behind a field
+-- a byte that may follow a field
 abbrev pub is_end : ℕ → Bool
 is_end b = is_sign b && not (b == 34)
 
@@ -67,7 +67,7 @@ field_form (Some t) = elim (cases_Bool (is_quoted t)) [
       )
 ]
 
--- bare fields are told by their bytes
+-- bare fields are determined by their bytes
 bare_same : (a b : Option (List ℕ)) → ((t : List ℕ) → a ≡ Some t → (field_of a ≡ t) × (0 < length t))
     → ((t : List ℕ) → b ≡ Some t → (field_of b ≡ t) × (0 < length t)) → field_of a ≡ field_of b → a ≡ b
 bare_same None None ha hb e = refl
@@ -81,7 +81,7 @@ bare_same (Some s) None ha hb e =
     let some = (ha s refl).1 in absurd (omega arith)
 bare_same (Some s) (Some t) ha hb e = ap Some (sym (ha s refl).0 ∙ e ∙ (hb t refl).0)
 
--- no bare field begins with a quote, nor does what stands behind it
+-- neither a bare field nor the bytes after it begin with a quote
 no_bare : (t u w v : List ℕ) → list_all is_bare w ≡ true → begins is_end v ≡ true → quoted 34 t ++ u ≡ w ++ v → ⊥
 no_bare t u [] v hw hv e = let never : is_end 34 ≡ true = ap (begins is_end) e ∙ hv in absurd (cc)
 no_bare t u (b ∷ w) v hw hv e =
@@ -106,7 +106,7 @@ field_cut a b u v ka kb su sv e = elim (field_form a) [
   ]
 ]
 
--- headings are such fields
+-- a heading is a field that can be cut off
 pub name_cut : Cuts (λ n. Unit {0}) text_field is_end
 name_cut a b u v ka kb su sv e =
     let cut = field_cut (Some a) (Some b) u v tt tt su sv e in

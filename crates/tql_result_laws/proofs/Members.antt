@@ -20,7 +20,7 @@ use Rattle.tql_result_laws.proofs.Words.{is_stop}
 
 -- ---- members
 
--- a heading, and what is said under it
+-- a heading, and the JSON form of the value in its column
 abbrev pub Pair : Type 0
 Pair = Name × Said
 
@@ -30,7 +30,7 @@ pair_text p = member p.0 (said_text p.1)
 abbrev pub IsPair : Pair → Type 0
 IsPair p = IsSaid p.1
 
--- behind a comma
+-- a pair after a comma
 abbrev pub next_pair : Pair → List ℕ
 next_pair p = 32 ∷ pair_text p
 
@@ -55,7 +55,7 @@ after_stops (p ∷ ps) u = refl
 
 -- ---- rows
 
--- what is said under each heading
+-- the pairs of headings and values
 abbrev pub pairs : List Name → List Said → List Pair
 pairs [] ss = []
 pairs (h ∷ hs) [] = []
@@ -89,7 +89,7 @@ pairs_some hs [] some e = absurd (omega arith)
 pairs_some [] (s ∷ ss) some e = absurd (omega (arith, e))
 pairs_some (h ∷ hs) (s ∷ ss) some e = omega arith
 
--- a line by its first member and the others
+-- a line, split into its first member and the others
 line_some : (m f w : List ℕ) → line (123 ∷ (m ++ f) ++ 125 ∷ []) ++ w ≡ 123 ∷ (m ++ (f ++ (125 ∷ 10 ∷ w)))
 line_some m f w = simp append_assoc
 
@@ -120,7 +120,7 @@ pairs_cut (p ∷ ps) (q ∷ qs) some also hp hq u v e =
     let whole : (p ∷ ps) ≡ (q ∷ qs) = cc in
     let tails : u ≡ v = cc in (whole, tails)
 
--- a row as wide as its headings, of values that are kept
+-- a row with as many values as headings, each of which can be stored
 abbrev pub IsWide : List Name → Row → Type 0
 IsWide hs r = IsRow IsKept r × (length r ≡ length hs)
 

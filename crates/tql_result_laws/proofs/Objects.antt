@@ -1,4 +1,4 @@
--- Values, lists and objects of JSON, and where they end.
+-- Values, arrays and objects of JSON, and where they end.
 use Rattle.std.proofs.Common.{◌≡◌, ℕ, ◌^◌, ◌<◌, List, [], ◌∷◌, ◌++◌, true, false, refl, sym, ◌∙◌, ap, subst, arith}
 use Rattle.std.proofs.Common.{append_assoc, length, map, decimal, get_or, drop}
 use Rattle.std.proofs.lemmas.Fmt.{decimal_injective, signed_decimal_injective}
@@ -31,13 +31,13 @@ use Rattle.tql_result_laws.proofs.Strings.{string_cut, word_escapes}
 
 -- ---- values
 
--- the text that says it
+-- the text of a JSON value
 abbrev pub said_text : Said → List ℕ
 said_text Nothing = codes "null"
 said_text (Number n) = signed_decimal n
 said_text (Words t) = string t
 
--- a number of 64 bits, or another value
+-- a number that fits in 64 bits, or another value
 abbrev pub IsSaid : Said → Type 0
 IsSaid Nothing = Unit {0}
 IsSaid (Number n) = mag n < 2 ^ 63
@@ -68,7 +68,7 @@ no_number : (z : ℤ) → mag z < 2 ^ 63 → codes "null" ≡ signed_decimal z �
 no_number z h e =
     let never : true ≡ false = ap (λ l. get_or l 0 0 == 110) e ∙ number_first z h in absurd (cc)
 
--- no word begins as a string does
+-- no word begins like a string
 no_string : (t u w v : List ℕ) → list_all is_word w ≡ true → 0 < length w → string t ++ u ≡ w ++ v → ⊥
 no_string t u w v h some e =
     let never : is_word 34 ≡ true = ap (begins is_word) e ∙ begins_append is_word w v some h in absurd (cc)
@@ -95,7 +95,7 @@ said_cut (Words s) (Words t) u v ka kb su sv e = let cut = string_cut s t u v e 
 
 -- ---- lists
 
--- texts that do not begin with a list's end
+-- texts that do not begin with the end of an array
 abbrev pub NoEnd : {A : Type 0} → (A → Type 0) → (A → List ℕ) → Type 0
 NoEnd {A} P f = (a : A) (u v : List ℕ) → P a → 93 ∷ u ≡ f a ++ v → ⊥
 
@@ -113,7 +113,7 @@ value_end s u v h e =
 string_end : NoEnd (λ n. Unit {0}) string
 string_end t u v h e = let never : true ≡ false = ap (begins (λ b. b == 93)) e in absurd (cc)
 
--- behind a blank
+-- texts after a blank can be cut off too
 blank_cut : {A : Type 0} (P : A → Type 0) (f : A → List ℕ) → Cuts P f is_stop → Cuts P (λ a. 32 ∷ f a) is_stop
 blank_cut P f cut a b u v ka kb su sv e = let rest : f a ++ u ≡ f b ++ v = cc in cut a b u v ka kb su sv rest
 
@@ -187,7 +187,7 @@ rows_said (r ∷ rows) h = (values_said r h.0.1, rows_said rows h.1)
 
 -- ---- members
 
--- a name, and what stands before and behind it
+-- a name, with the comma before it and the colon after it
 abbrev pub named : List ℕ → List ℕ
 named name = 44 ∷ 32 ∷ (string name ++ (58 ∷ 32 ∷ []))
 
@@ -204,7 +204,7 @@ member_parts : (name value : List ℕ) (members : List (List ℕ))
 member_parts name value members =
     parts (string name) value (flat_map (λ m. 44 ∷ 32 ∷ m) members) (125 ∷ 10 ∷ [])
 
--- a number that a member has
+-- a member that is a number
 number_cut : (name : List ℕ) (n m : ℕ) (ms ns : List (List ℕ)) → n < 2 ^ 64 → m < 2 ^ 64
     → begins is_stop (rest_text ms) ≡ true → begins is_stop (rest_text ns) ≡ true
     → rest_text (member name (decimal n) ∷ ms) ≡ rest_text (member name (decimal m) ∷ ns)
@@ -216,7 +216,7 @@ number_cut name n m ms ns hn hm sm sn e =
     (decimal_word m hm) sm sn both in
     (decimal_injective n m hn hm cut.0, cut.1)
 
--- a string that a member has
+-- a member that is a string
 string_member : (name s t : List ℕ) (ms ns : List (List ℕ))
     → rest_text (member name (string s) ∷ ms) ≡ rest_text (member name (string t) ∷ ns)
     → (s ≡ t) × (rest_text ms ≡ rest_text ns)
@@ -225,16 +225,16 @@ string_member name s t ms ns e =
     (cancel (named name) (string s ++ rest_text ms) (string t ++ rest_text ns)
     (sym (member_parts name (string s) ms) ∙ e ∙ member_parts name (string t) ns))
 
--- ---- members of what is known
+-- ---- members for known details
 
--- a test of what follows, which a member of this name does not change
+-- a test of the bytes that follow; a member with this name does not affect it
 ahead : {A : Type 0} (name : List ℕ) (text : A → List ℕ) (test : List ℕ → Bool) (b : Bool)
     → ((v : List ℕ) (ms : List (List ℕ)) → test (rest_text (member name v ∷ ms)) ≡ b) → (x : Option A)
     (ms : List (List ℕ)) → test (rest_text ms) ≡ b → test (rest_text (known name text x ms)) ≡ b
 ahead name text test b here None ms h = h
 ahead name text test b here (Some a) ms h = here (text a) ms
 
--- what is known under one name, where no other member has that name
+-- the detail under a name, if no other member has that name
 known_same : {A : Type 0} (P : A → Type 0) (name : List ℕ) (text : A → List ℕ) (test : List ℕ → Bool)
     → Cuts P text is_stop → ((v : List ℕ) (ms : List (List ℕ)) → test (rest_text (member name v ∷ ms)) ≡ true)
     → (x y : Option A) (ms ns : List (List ℕ)) → ((a : A) → x ≡ Some a → P a) → ((a : A) → y ≡ Some a → P a)
@@ -252,7 +252,7 @@ known_same P name text test cut here (Some a) (Some b) ms ns hx hy tm tn sm sn e
     let same = cut a b (rest_text ms) (rest_text ns) (hx a refl) (hy b refl) sm sn both in
     (ap Some same.0, same.1)
 
--- a number of 64 bits, a text, and names
+-- a number that fits in 64 bits, a text, and an array of names
 decimal_cut : Cuts (λ (n : ℕ). n < 2 ^ 64) decimal is_stop
 decimal_cut n m u v hn hm su sv e =
     let cut = word_cut is_word is_stop apart (decimal n) (decimal m) u v (decimal_word n hn) (decimal_word m hm) su sv
@@ -304,7 +304,7 @@ no_done : (v : Verb) (n : Option ℕ)
 no_done v n e = no_verb v (string_member (codes "reply") (verb_text v) (codes "OK") (known (codes "count") decimal n [])
     [] e).0
 
--- the members behind the column, behind the detail, and so on
+-- the members from `row` on, from `columns` on, and so on
 abbrev pub from_row : Fault → List (List ℕ)
 from_row f = known (codes "row") decimal f.row []
 
@@ -320,7 +320,7 @@ from_hint f = known (codes "hint") string f.hint (from_constraint f)
 abbrev pub from_detail : Fault → List (List ℕ)
 from_detail f = known (codes "detail") string f.detail (from_hint f)
 
--- a test of the first bytes that no such member changes
+-- a test of the first bytes with the same result for every member with this name
 abbrev pub Passes : (List ℕ → Bool) → Bool → List ℕ → Type 0
 Passes test b name = (v : List ℕ) (ms : List (List ℕ)) → test (rest_text (member name v ∷ ms)) ≡ b
 
@@ -354,7 +354,7 @@ detail_ahead test b detail hint constraint columns row end f =
     ahead (codes "detail") string test b detail f.detail (from_hint f)
     (hint_ahead test b hint constraint columns row end f)
 
--- whether a member is the column: `columns` goes on, and `constraint` differs before that
+-- whether a member is `column`: `columns` is longer, and `constraint` differs earlier
 abbrev pub is_column : List ℕ → Bool
 is_column l = (get_or l 3 0 == 99) && (get_or l 9 0 == 34)
 
@@ -441,7 +441,7 @@ tables_same hs ks rs qs tr tq e =
     ∙ ap (λ l. array l ++ rest_text []) (rows_are qs rows_q)) in
     (heads.0, same.0)
 
--- the sixth byte tells what kind of members they are
+-- the sixth byte distinguishes the kinds of members
 answers_say : (f g : Fault) (a b : Answer) → IsFault f → IsFault g → IsWhole a → IsWhole b
     → rest_text (members_of f a) ≡ rest_text (members_of g b) → SayTheSame a b × SameFault a f g
 answers_say f g (Replied (Done v n)) (Replied (Done w m)) hf hg ha hb e = (dones_same v w n m ha hb e, tt)
@@ -481,7 +481,7 @@ members_stop f (Replied (Table hs rs)) = refl
 members_stop f (Replied (Refused e)) = refl
 members_stop f Accepted = refl
 
--- what stands before the statement's number
+-- the bytes before the statement number
 abbrev pub opened : List ℕ
 opened = 123 ∷ (string (codes "statement") ++ (58 ∷ 32 ∷ []))
 

@@ -1,4 +1,4 @@
--- Words by which answers begin: of what is done, and of refusals.
+-- The first words of answers: those of executed statements, and those of refusals.
 use Rattle.std.proofs.Common.{◌≡◌, ℕ, ◌+◌, ◌*◌, List, [], ◌∷◌, ◌++◌, Bool, true, refl, sym, ◌∙◌, ap, get_or}
 use Rattle.std.proofs.Common.{take, drop, ◌<◌, arith}
 use Rattle.std.specs.Prelude.{◌==◌, not, Option, Some, None, if◌then◌else◌}
@@ -21,7 +21,7 @@ use Rattle.tql_spec.specs.Text.{verb_text, wording, number}
 abbrev pub opening : List ℕ → ℕ
 opening t = get_or t 0 0 * 256 + get_or t 1 0
 
--- the word that begins so
+-- the verb that begins with these bytes
 pub verb_at : ℕ → Option Verb
 verb_at n =
     if n == 17234 then Some CreatedTable else (
@@ -38,7 +38,7 @@ verb_at n =
     if n == 17228 then Some ClosedReader else (
     None))))))))))))
 
--- the word behind which anything stands
+-- a verb is recognized whatever follows it
 pub verb_opens : (v : Verb) (rest : List ℕ) → verb_at (opening (verb_text v ++ rest)) ≡ Some v
 unfolding verb_at
 verb_opens CreatedTable rest = refl
@@ -54,7 +54,7 @@ verb_opens Pruned rest = refl
 verb_opens OpenedReader rest = refl
 verb_opens ClosedReader rest = refl
 
--- these begin as no such word
+-- these bytes begin no verb
 pub refused_opens : verb_at 21061 ≡ None
 unfolding verb_at
 refused_opens = refl
@@ -63,7 +63,7 @@ pub accepted_opens : verb_at 20299 ≡ None
 unfolding verb_at
 accepted_opens = refl
 
--- no bracket
+-- a byte other than `)`
 abbrev pub is_plain : ℕ → Bool
 is_plain b = not (b == 41)
 
@@ -117,7 +117,7 @@ refusals =
     TooManyTablesOrReaders ∷ BeforeTheHorizon ∷ ReaderNotUsable ∷ ValueOutOfRange ∷ PortionNotRising ∷
     NullNotAllowed ∷ PeriodNotRising ∷ CheckFailed ∷ DuplicateKey ∷ ReferenceNotMet ∷ OutOfMemory ∷ []
 
--- the refusal of this number
+-- the refusal with this number
 refusal_at : ℕ → Option Refusal
 refusal_at n = find (λ e. number e == n) refusals
 

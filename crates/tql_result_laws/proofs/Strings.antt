@@ -1,4 +1,4 @@
--- Strings of JSON, and where they end.
+-- JSON strings, and where they end.
 use Rattle.std.proofs.Common.{◌≡◌, ℕ, ◌+◌, ◌/◌, ◌%◌, ◌<◌, ◌≤◌, List, [], ◌∷◌, ◌++◌, true, false, refl, sym}
 use Rattle.std.proofs.Common.{◌∙◌, ap, arith, append_assoc, inl, inr, ◌⊎◌, get_or}
 use Rattle.std.proofs.lemmas.Bool.{cases_Bool, eqb-true, cases_lt}
@@ -9,7 +9,7 @@ use Rattle.tql_result_laws.specs.Json.{hex_digit, control, escaped, string}
 use Rattle.tql_result_laws.proofs.Cuts.{and_left, and_right}
 use Rattle.tql_result_laws.proofs.Words.{is_word}
 
--- a sign, a control byte, or any other
+-- a byte is a quote or a backslash, a control byte, or another byte
 pub data Sort (b : ℕ) : Type 0 where
   Sign : (b ≡ 34) ⊎ (b ≡ 92) → ((p : List ℕ) → escaped b ++ p ≡ 92 ∷ b ∷ p) → Sort b
   Control : b < 32 → ((p : List ℕ) → escaped b ++ p ≡ control b ++ p) → Sort b
@@ -67,11 +67,11 @@ controls_same b c hb hc p q e =
     let units = digit_same (b % 16) (c % 16) (omega arith) (omega arith) second in
     let same : b ≡ c = omega (arith, tens, units) in (same, rest)
 
--- a sign's second byte is not that of a control byte
+-- the second byte of an escaped quote or backslash is not that of a control byte
 sign_second : (b : ℕ) → (b ≡ 34) ⊎ (b ≡ 92) → b ≡ 117 → ⊥
 sign_second b h e = elim h [ inl quote ↦ omega arith | inr slash ↦ omega arith ]
 
--- bytes are told by their escapes
+-- bytes are determined by their escapes
 escaped_cut : (b c : ℕ) (p q : List ℕ) → escaped b ++ p ≡ escaped c ++ q → (b ≡ c) × (p ≡ q)
 escaped_cut b c p q e = elim (sort b) [
   | Sign hb fb ↦ elim (sort c) [
@@ -107,7 +107,7 @@ escaped_cut b c p q e = elim (sort b) [
   ]
 ]
 
--- no byte of a string looks like its end
+-- no escaped byte begins like the end of a string
 escaped_end : (b : ℕ) (p q : List ℕ) → escaped b ++ p ≡ 34 ∷ q → ⊥
 escaped_end b p q e = elim (sort b) [
   | Sign hb fb ↦
@@ -139,7 +139,7 @@ escapes_cut (b ∷ s) (c ∷ t) u v e =
     let others : s ≡ t = more.0 in
     let whole : (b ∷ s) ≡ (c ∷ t) = cc in (whole, more.1)
 
--- strings end where they end, whatever stands behind them
+-- strings can be cut off, whatever follows them
 pub string_cut : (s t u v : List ℕ) → string s ++ u ≡ string t ++ v → (s ≡ t) × (u ≡ v)
 string_cut s t u v e =
     let both : 34 ∷ (flat_map escaped s ++ (34 ∷ u)) ≡ 34 ∷ (flat_map escaped t ++ (34 ∷ v)) =

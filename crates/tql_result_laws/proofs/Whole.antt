@@ -1,4 +1,4 @@
--- Whole answers by their texts.
+-- Whole answers are determined by their texts.
 use Rattle.std.proofs.Common.{◌≡◌, ℕ, ◌<◌, List, [], ◌∷◌, ◌++◌, Bool, true, false, refl, sym, ◌∙◌, ap}
 use Rattle.std.proofs.Common.{arith, append_assoc, length, map, decimal, get_or, inl, inr}
 use Rattle.std.proofs.lemmas.Bool.{cases_Bool, eqb-true}
@@ -27,11 +27,11 @@ use Rattle.tql_result_laws.proofs.Openings.{wording_plain, wording_same}
 
 -- ---- tables
 
--- the line that counts the rows
+-- the line with the number of rows
 abbrev pub count_line : ℕ → List ℕ
 count_line n = line (40 ∷ decimal n ++ codes " rows)")
 
--- a row begins with no bracket
+-- the line of a row does not begin with the parenthesis of the count line
 no_row : (n : ℕ) → NoLine IsKept cell_text 124 (10 ∷ []) (count_line n)
 no_row n [] u h e = absurd (omega (arith, h.0))
 no_row n (d ∷ ds) u h e =
@@ -53,7 +53,7 @@ table_rows headings rows h =
     (All-weaker (λ r. length r ≡ length headings) (λ r. 0 < length r) (λ r e. omega arith) rows h.wide))
     (each_weaker (All IsKept) (Each IsKept) (λ r k. each IsKept r k) rows (each (All IsKept) rows h.kept))
 
--- names are told by their texts, whatever they are
+-- names need no condition
 names : (xs : List Name) → Each (λ n. Unit {0}) xs
 names [] = tt
 names (x ∷ xs) = (tt, names xs)
@@ -103,7 +103,7 @@ refused_plain e =
     all_append is_plain (codes "REFUSED " ++ wording e) (10 ∷ [])
     (all_append is_plain (codes "REFUSED ") (wording e) refl (wording_plain e)) refl
 
--- a table ends with a bracket
+-- a table ends with a parenthesis
 and_false : (a : Bool) → (a && false) ≡ false
 and_false true = refl
 and_false false = refl
@@ -166,7 +166,7 @@ refusals_same e f h =
 pub none_some : {A : Type 0} (x : A) → None ≡ Some x → ⊥
 none_some x e = absurd (cc)
 
--- what begins as no word is nothing done
+-- a text that begins with no verb is not the reply of an executed statement
 not_done : (v : Verb) (n : Option ℕ) (t : List ℕ) → verb_at (opening t) ≡ None → reply_text (Done v n) ≡ t → ⊥
 not_done v n t none e =
     none_some v (sym none ∙ ap (λ l. verb_at (opening l)) (sym e) ∙ done_opens v n)

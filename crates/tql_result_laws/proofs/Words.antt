@@ -1,4 +1,4 @@
--- The bytes of words: of numbers, days, moments, NULL and bare headings.
+-- The bytes of words: of numbers, dates, timestamps, NULL and bare headings.
 use Rattle.std.proofs.Common.{◌≡◌, ℕ, zero, suc, ◌+◌, ◌-◌, ◌/◌, ◌%◌, ◌^◌, ◌<◌, List, [], ◌∷◌, ◌++◌, Bool, true, false}
 use Rattle.std.proofs.Common.{refl, sym, ◌∙◌, ap, arith, replicate, decimal, length, get_or, inl, inr}
 use Rattle.std.proofs.lemmas.Bool.{cases_Bool}
@@ -18,7 +18,7 @@ abbrev pub is_word : ℕ → Bool
 is_word b =
     is_digit b || is_upper b || (nat_le 97 b && nat_le b 122) || (b == 45) || (b == 32) || (b == 58) || (b == 46)
 
--- none of these, and no quote
+-- a byte that is neither of these nor a quote
 abbrev pub is_stop : ℕ → Bool
 is_stop b = not (is_word b || (b == 39) || (b == 34))
 
@@ -26,7 +26,7 @@ is_stop b = not (is_word b || (b == 39) || (b == 34))
 pub apart : (b : ℕ) → is_word b ≡ true → is_stop b ≡ true → ⊥
 apart b w s = let none = rw w at s in absurd (cc)
 
--- what passes one test passes another
+-- a weaker test
 pub all_weaker : (p q : ℕ → Bool) → ((b : ℕ) → p b ≡ true → q b ≡ true) → (xs : List ℕ) → list_all p xs ≡ true
     → list_all q xs ≡ true
 all_weaker p q weaker [] h = refl
@@ -99,14 +99,14 @@ time_word micros h =
     (padded_word 2 (s % 60) second))
     (fraction_word (micros % 1_000_000) micro)
 
--- a whole number, whose magnitude has 64 bits
+-- an integer whose magnitude fits in 63 bits
 pub signed_word : (z : ℤ) → mag z < 2 ^ 63 → list_all is_word (signed_decimal z) ≡ true
 signed_word (pos n) h = decimal_word n (omega arith)
 signed_word (negsuc n) h = decimal_word (suc n) (omega arith)
 
--- ---- a byte at a place
+-- ---- a byte at a position
 
--- no digit stands for another byte
+-- a digit is no other byte
 pub digit_at : (ds : List ℕ) (k b : ℕ) → is_digit b ≡ false → (b ≡ 0 → ⊥) → list_all is_digit ds ≡ true
     → get_or ds k 0 ≡ b → ⊥
 digit_at [] k b other some h e = some (sym e)

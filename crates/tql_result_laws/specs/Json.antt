@@ -1,4 +1,4 @@
--- The text of an answer as one JSON object on one line, by RFC 8259.
+-- The text of an answer as one JSON object on one line (RFC 8259).
 use Rattle.std.specs.Prelude.{ℕ, ◌+◌, ◌/◌, ◌%◌, ◌||◌, ◌==◌, nat_lt, List, [], ◌∷◌, ◌++◌, map, drop, codes, decimal}
 use Rattle.std.specs.Prelude.{Option, Some, None, if◌then◌else◌}
 use Rattle.std.specs.Fmt.{signed_decimal}
@@ -10,11 +10,11 @@ use Rattle.tql_spec.specs.Refusal.{Refusal}
 use Rattle.tql_spec.specs.Answer.{Answer, Replied, Accepted}
 use Rattle.tql_spec.specs.Text.{cell_text, line, verb_text, wording, number}
 
--- a digit of base 16
+-- a hexadecimal digit
 abbrev pub hex_digit : ℕ → ℕ
 hex_digit d = if nat_lt d 10 then 48 + d else 87 + d
 
--- a control byte
+-- the escape of a control byte
 abbrev pub control : ℕ → List ℕ
 control b = codes "\\u00" ++ hex_digit (b / 16) ∷ hex_digit (b % 16) ∷ []
 
@@ -22,7 +22,7 @@ control b = codes "\\u00" ++ hex_digit (b / 16) ∷ hex_digit (b % 16) ∷ []
 abbrev pub escaped : ℕ → List ℕ
 escaped b = if (b == 34) || (b == 92) then 92 ∷ b ∷ [] else (if nat_lt b 32 then control b else b ∷ [])
 
--- between quotes
+-- bytes between quotes
 abbrev pub in_quotes : List ℕ → List ℕ
 in_quotes bs = 34 ∷ bs ++ 34 ∷ []
 
@@ -30,7 +30,7 @@ in_quotes bs = 34 ∷ bs ++ 34 ∷ []
 abbrev pub string : List ℕ → List ℕ
 string bs = in_quotes (flat_map escaped bs)
 
--- a value; a day and a moment are the text that their literals take
+-- a value; a date or a timestamp is the text that its literal contains
 abbrev pub json_value : Datum → List ℕ
 json_value Null = codes "null"
 json_value (Int n) = signed_decimal n
@@ -38,38 +38,38 @@ json_value (Text t) = string t
 json_value (Day d) = in_quotes (cell_text (Day d))
 json_value (Moment m) = in_quotes (cell_text (Moment m))
 
--- texts, a comma and a blank between each two
+-- texts, separated by a comma and a blank
 abbrev pub parted : List (List ℕ) → List ℕ
 parted [] = []
 parted (x ∷ xs) = x ++ flat_map (λ y. 44 ∷ 32 ∷ y) xs
 
--- a list of such texts
+-- an array of these texts
 abbrev pub array : List (List ℕ) → List ℕ
 array xs = 91 ∷ parted xs ++ 93 ∷ []
 
--- a name and what it names
+-- a member: a name and its value
 abbrev pub member : List ℕ → List ℕ → List ℕ
 member name value = string name ++ 58 ∷ 32 ∷ value
 
--- an object of such members
+-- an object of these members
 abbrev pub object : List (List ℕ) → List ℕ
 object members = 123 ∷ parted members ++ 125 ∷ []
 
--- a row
+-- a row, as an array
 abbrev pub row_array : Row → List ℕ
 row_array r = array (map json_value r)
 
--- a member in front of others, where what it names is known
+-- a member before others, if its value is known
 abbrev pub known : {A : Type 0} → List ℕ → (A → List ℕ) → Option A → List (List ℕ) → List (List ℕ)
 known name text None others = others
 known name text (Some a) others = member name (text a) ∷ others
 
--- names
+-- an array of names
 abbrev pub name_array : List Name → List ℕ
 name_array names = array (map string names)
 
--- what is known of the fault of a refused statement: its column on the line, what is wrong, what to write instead, the
--- constraint that a row fails, the names of the columns that it fails in, and the number of the row
+-- the known details of the fault of a refused statement. `hint` says what to write instead, `columns` are those in
+-- which the row fails, and `row` is the number of the row.
 pub record Fault : Type 0 where
   pub column : Option ℕ
   pub detail : Option (List ℕ)
@@ -78,11 +78,11 @@ pub record Fault : Type 0 where
   pub columns : Option (List Name)
   pub row : Option ℕ
 
--- nothing is known
+-- no known details
 abbrev pub unknown : Fault
 unknown = record { column = None; detail = None; hint = None; constraint = None; columns = None; row = None }
 
--- what is known of a fault
+-- the members for the known details of a fault
 abbrev pub fault_members : Fault → List (List ℕ)
 fault_members f =
     known (codes "column") decimal f.column
@@ -92,7 +92,7 @@ fault_members f =
     (known (codes "columns") name_array f.columns
     (known (codes "row") decimal f.row [])))))
 
--- what is done, and how often
+-- the members of the reply to an executed statement: its words, and the count if there is one
 abbrev pub done_members : Verb → Option ℕ → List (List ℕ)
 done_members v n = member (codes "reply") (string (verb_text v)) ∷ known (codes "count") decimal n []
 
@@ -101,19 +101,19 @@ abbrev pub table_members : List Name → List Row → List (List ℕ)
 table_members headings rows =
     member (codes "columns") (name_array headings) ∷ member (codes "rows") (array (map row_array rows)) ∷ []
 
--- the number of a refusal and its words
+-- the number and the words of a refusal
 abbrev pub refusal_members : Refusal → List (List ℕ)
 refusal_members e =
     member (codes "refused") (decimal (number e)) ∷ member (codes "text") (string (drop 4 (wording e))) ∷ []
 
--- what an answer says; a refusal has what is known of its fault
+-- the members of an answer; a refusal includes the known details of its fault
 abbrev pub members_of : Fault → Answer → List (List ℕ)
 members_of fault (Replied (Done v n)) = done_members v n
 members_of fault (Replied (Table headings rows)) = table_members headings rows
 members_of fault (Replied (Refused e)) = refusal_members e ++ fault_members fault
 members_of fault Accepted = member (codes "reply") (string (codes "OK")) ∷ []
 
--- the bytes of the answer to the statement of this number, on this line, with what is known of its fault
+-- the bytes of the answer to the statement with this number, on this line, with the known details of its fault
 abbrev pub json_text : ℕ → ℕ → Fault → Answer → List ℕ
 json_text statement at fault a =
     line (object

@@ -6,7 +6,7 @@ use Rattle.tql_spec.specs.Definition.{Name}
 use Rattle.tql_spec.specs.Text.{line}
 use Rattle.tql_result_laws.specs.Json.{json_value, member, object}
 
--- each value under the heading of its column
+-- each value, with the heading of its column as the key
 abbrev pub row_members : List Name → Row → List (List ℕ)
 row_members (h ∷ hs) (d ∷ ds) = member h (json_value d) ∷ row_members hs ds
 row_members _ _ = []

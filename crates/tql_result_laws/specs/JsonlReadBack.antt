@@ -1,4 +1,4 @@
--- JSON Lines are read back up to what their values say: equal texts are of rows that say the same.
+-- JSON Lines can be read back up to the JSON form of values: equal texts come from rows with the same JSON values.
 use Rattle.std.specs.Prelude.{◌≡◌, ◌<◌, List, length, map}
 use Rattle.tql_spec.specs.Datum.{Row}
 use Rattle.tql_spec.specs.Definition.{Name}
@@ -6,7 +6,7 @@ use Rattle.tql_result_laws.specs.Jsonl.{jsonl_text}
 use Rattle.tql_result_laws.specs.JsonReadBack.{said}
 use Rattle.tql_result_laws.specs.ReadBack.{IsTable}
 
--- tables with one text say the same rows, and have the same headings where they have a row
+-- tables with the same text have the same JSON values, and the same headings if they have a row
 abbrev pub RowsReadBack : Type 0
 RowsReadBack = (hs ks : List Name) (rs qs : List Row) → IsTable hs rs → IsTable ks qs
     → jsonl_text hs rs ≡ jsonl_text ks qs

@@ -1,4 +1,4 @@
-//! Which clause of a statement calculates a number out of range.
+//! Details of statements that calculate a number out of range: the clause that does so.
 ghost use Rattle.std.specs.Prelude.{All};
 ghost use Rattle.tql_expr.specs.Meaning.{HasCond};
 
@@ -11,7 +11,7 @@ use tql_detail::detail::Detail;
 use tql_expr::terms::{CondId, Terms};
 use tql_memory::Memory;
 
-/// Whether none of these conditions calculates.
+/// Whether none of these conditions can be out of range.
 fn are_safe(terms: &Terms, conjuncts: &[CondId]) -> bool
     requires { All (HasCond terms.now) conjuncts.now }
 {
@@ -23,8 +23,8 @@ fn are_safe(terms: &Terms, conjuncts: &[CondId]) -> bool
     true
 }
 
-/// The detail of an UPDATE or DELETE that calculates a number out of range (E30): the clause, where one alone can, and
-/// the column that SET sets, where it is one. None where no memory is there for it.
+/// Returns the detail of an UPDATE or DELETE that calculates a number out of range (E30). It names the clause, if only
+/// one can be the cause, and the column if SET sets only one. None if there is no memory for it.
 pub fn change_detail(
     memory: Memory,
     definition: &TableDef,
@@ -48,8 +48,8 @@ pub fn change_detail(
     Some(detail)
 }
 
-/// The detail of a query that calculates a number out of range (E30): the select list, where no condition can. None
-/// where no memory is there for it.
+/// Returns the detail of a query that calculates a number out of range (E30). It names the select list if no condition
+/// can be the cause. None if there is no memory for it.
 pub fn query_detail(memory: Memory, query: &BoundQuery) -> Option<Detail> {
     let terms = &query.terms;
     let joins = query.chains.iter().any(|chain| !chain.joins.is_empty());

@@ -8,17 +8,17 @@ use tql_result::cell::{is_printable, write_cell};
 use tql_result::vec_sink::VecSink;
 use tql_value::value::{Value, View};
 
-/// Which row of a change a detail is about.
+/// The row of a change that a detail is about.
 #[derive(Clone, Copy)]
 pub enum Subject {
     /// A row of an INSERT, by its number from 0.
     Numbered(usize),
-    /// A row that an UPDATE or DELETE changes: its number says nothing to the user.
+    /// A row that an UPDATE or DELETE changes. Its number means nothing to the user.
     Changed,
 }
 
 impl Subject {
-    /// The number of the row in the statement, from 1, where it has one.
+    /// Returns the number of the row in the statement, from 1, if it has one.
     pub fn row(self) -> Option<u64> {
         match self {
             Subject::Numbered(row) => Some((row as u64).saturating_add(1)),
@@ -34,7 +34,7 @@ pub struct Cells<'a> {
     pub values: &'a [Value],
 }
 
-/// Adds columns of a table, by their numbers, to those of a detail.
+/// Adds columns of a table, by their numbers, to the columns of a detail.
 pub fn add_columns(
     detail: &mut Detail,
     definition: &TableDef,
@@ -48,7 +48,7 @@ pub fn add_columns(
     Ok(())
 }
 
-/// The most bytes of a value as a query prints it.
+/// Returns the maximal number of bytes of a value as a query prints it.
 fn room_for(value: View<'_>) -> usize {
     match value {
         View::Text(text) => text.len().saturating_mul(2).saturating_add(2),
@@ -56,7 +56,7 @@ fn room_for(value: View<'_>) -> usize {
     }
 }
 
-/// A value as a query prints it, or the first characters of that.
+/// Appends a value as a query prints it, or the first characters of that.
 pub fn push_view(words: &mut Words, value: View<'_>) -> Result<(), AllocError> {
     if !is_printable(value) {
         return words.push('?');
@@ -71,7 +71,7 @@ pub fn push_view(words: &mut Words, value: View<'_>) -> Result<(), AllocError> {
 }
 
 impl<'a> Cells<'a> {
-    /// The value of a column, by its number; NULL where the row stores none.
+    /// Returns the value of a column, by its number; NULL if the row does not store the column.
     pub fn value(self, number: usize) -> View<'a> {
         let stored = self.definition.assignable();
         match stored.iter().position(|column| *column == number) {
@@ -83,12 +83,12 @@ impl<'a> Cells<'a> {
         }
     }
 
-    /// The value of a column.
+    /// Appends the value of a column.
     pub fn push_value(self, words: &mut Words, number: usize) -> Result<(), AllocError> {
         push_view(words, self.value(number))
     }
 
-    /// The values of columns: `(1, 'x')`.
+    /// Appends the values of columns: `(1, 'x')`.
     pub fn push_values(self, words: &mut Words, columns: &[usize]) -> Result<(), AllocError> {
         let mut before = "(";
         for number in columns {
@@ -99,14 +99,14 @@ impl<'a> Cells<'a> {
         words.push(')')
     }
 
-    /// The names of columns and their values: `(A, B) = (1, 'x')`.
+    /// Appends the names of columns and their values: `(A, B) = (1, 'x')`.
     pub fn push_tuple(self, words: &mut Words, columns: &[usize]) -> Result<(), AllocError> {
         push_names(words, self.definition, columns)?;
         words.push_str(" = ")?;
         self.push_values(words, columns)
     }
 
-    /// The application period, where the table has one: ` from 2024-01-01 to 2025-01-01`.
+    /// Appends the application period, if the table has one: ` from 2024-01-01 to 2025-01-01`.
     pub fn push_period(self, words: &mut Words) -> Result<(), AllocError> {
         match self.definition.application() {
             Some(application) => {
@@ -120,7 +120,7 @@ impl<'a> Cells<'a> {
     }
 }
 
-/// A row of a change: `row 3`, or `changed row with (A) = (1)`, by its first key.
+/// Appends a row of a change: `row 3`, or `changed row with (A) = (1)`, by its first key.
 pub fn push_subject(
     words: &mut Words,
     subject: Subject,
@@ -139,7 +139,7 @@ pub fn push_subject(
     }
 }
 
-/// A row of a change that has values: `row 3 has `, or `a changed row has `.
+/// Appends the start of a sentence about a row's values: `row 3 has `, or `a changed row has `.
 pub fn push_owner(words: &mut Words, subject: Subject) -> Result<(), AllocError> {
     match subject {
         Subject::Numbered(row) => write!(words, "row {} has ", row.saturating_add(1)),

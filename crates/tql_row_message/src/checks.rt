@@ -16,7 +16,7 @@ fn reads(checks: &Checks, check: usize, column: usize) -> bool {
     }
 }
 
-/// Names a CHECK, by its number, in the words of a detail and as its constraint.
+/// Appends the name of a CHECK, by its number, and sets it as the constraint of the detail.
 pub(crate) fn name_check(
     detail: &mut Detail,
     definition: &TableDef,
@@ -28,7 +28,7 @@ pub(crate) fn name_check(
     }
 }
 
-/// The values of the columns that a CHECK reads: `: A = 1, B = 'x'`. The detail has these columns then.
+/// Appends the values of the columns that a CHECK reads, and adds these columns to the detail: `: A = 1, B = 'x'`.
 pub fn push_values_read(
     detail: &mut Detail,
     cells: Cells<'_>,

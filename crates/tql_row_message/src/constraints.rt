@@ -5,8 +5,8 @@ use tql_catalog::table_def::TableDef;
 use tql_detail::detail::Detail;
 use tql_detail::shown::{Words, push_shown};
 
-/// Appends the name of a constraint. A long name is shown whole if its parts are short, as those of its table and its
-/// columns are.
+/// Appends the name of a constraint. A long name is shown whole if its parts between underscores are short, as the
+/// names of its table and its columns are.
 fn push_constraint_name(words: &mut Words, name: &str) -> Result<(), AllocError> {
     let mut is_first = true;
     for part in name.split('_') {

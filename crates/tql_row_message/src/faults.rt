@@ -1,4 +1,4 @@
-//! Rows that fail by themselves: in a column, their period or a CHECK.
+//! Details of rows that are invalid by themselves: because of a column, their period or a CHECK.
 use crate::cells::{Cells, Subject, add_columns, push_subject};
 use crate::checks::{name_check, push_values_read};
 use std::alloc::AllocError;
@@ -9,7 +9,7 @@ use tql_detail::shown::{Words, push_shown};
 use tql_dml::failures::Failed;
 use tql_memory::Memory;
 
-/// The type of a column whose texts are too long: `VARCHAR(20)`.
+/// Appends the type of a column for whose texts there is a limit: `VARCHAR(20)`.
 fn push_limit(words: &mut Words, definition: &TableDef, column: usize) -> Result<(), AllocError> {
     match definition.columns().get(column) {
         Some(column) => match column.limit {
@@ -20,7 +20,7 @@ fn push_limit(words: &mut Words, definition: &TableDef, column: usize) -> Result
     }
 }
 
-/// The number of a column, by its number among those that are not generated.
+/// Returns the number of a column, by its number among the columns that are not generated.
 fn column_number(cells: Cells<'_>, stored: usize) -> usize {
     match cells.definition.assignable().get(stored) {
         Some(number) => *number,
@@ -28,7 +28,7 @@ fn column_number(cells: Cells<'_>, stored: usize) -> usize {
     }
 }
 
-/// A text that is too long: `: NAME = 'a text' is longer than VARCHAR(5)`.
+/// Appends a text that is too long: `: NAME = 'a text' is longer than VARCHAR(5)`.
 fn push_long_text(words: &mut Words, cells: Cells<'_>, column: usize) -> Result<(), AllocError> {
     words.push_str(": ")?;
     push_column(words, cells.definition, column)?;
@@ -38,14 +38,14 @@ fn push_long_text(words: &mut Words, cells: Cells<'_>, column: usize) -> Result<
     push_limit(words, cells.definition, column)
 }
 
-/// NULL in a column: `: column NAME is NULL`.
+/// Appends a column that is NULL: `: column NAME is NULL`.
 fn push_null(words: &mut Words, cells: Cells<'_>, column: usize) -> Result<(), AllocError> {
     words.push_str(": column ")?;
     push_column(words, cells.definition, column)?;
     words.push_str(" is NULL")
 }
 
-/// Tells of a period that does not rise: `: VALID from 2025-01-01 to 2024-01-01 does not rise`.
+/// Appends a period that does not rise: `: VALID from 2025-01-01 to 2024-01-01 does not rise`.
 fn tell_fallen(detail: &mut Detail, cells: Cells<'_>) -> Result<(), AllocError> {
     detail.words.push_str(": ")?;
     if let Some(application) = cells.definition.application() {
@@ -57,7 +57,7 @@ fn tell_fallen(detail: &mut Detail, cells: Cells<'_>) -> Result<(), AllocError> 
     detail.words.push_str(" does not rise")
 }
 
-/// Tells of a CHECK: its name between these words, and the values of the columns that it reads.
+/// Appends the name of a CHECK between these words, and the values of the columns that it reads.
 fn tell_check(
     detail: &mut Detail,
     cells: Cells<'_>,
@@ -71,7 +71,7 @@ fn tell_check(
     push_values_read(detail, cells, check)
 }
 
-/// Tells what a row fails in, behind the row itself.
+/// Appends why a row fails, after the row itself.
 fn tell_failed(detail: &mut Detail, cells: Cells<'_>, failed: Failed) -> Result<(), AllocError> {
     match failed {
         Failed::LongText(stored) => {
@@ -93,7 +93,7 @@ fn tell_failed(detail: &mut Detail, cells: Cells<'_>, failed: Failed) -> Result<
     }
 }
 
-/// The detail of a row that fails by itself (E30 and E32 to E34). None where no memory is there for it.
+/// Returns the detail of a row that is invalid by itself (E30 and E32 to E34). None if there is no memory for it.
 pub fn fault_detail(
     memory: Memory,
     subject: Subject,
@@ -107,7 +107,7 @@ pub fn fault_detail(
     Some(detail)
 }
 
-/// Tells that what is set in a column is out of range, behind the words for that.
+/// Appends a column and that the value for it, named before, is out of range.
 pub(crate) fn tell_range(
     detail: &mut Detail,
     definition: &TableDef,
@@ -118,7 +118,8 @@ pub(crate) fn tell_range(
     add_columns(detail, definition, &[column])
 }
 
-/// The detail of a value of an INSERT that is out of range (E30), by the numbers of its row and of its column, from 0.
+/// Returns the detail of a value of an INSERT that is out of range (E30), by its row and its column, numbered from 0.
+/// None if there is no memory for it.
 pub fn value_detail(
     memory: Memory,
     definition: &TableDef,

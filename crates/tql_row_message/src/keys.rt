@@ -1,4 +1,4 @@
-//! Rows that clash in a key.
+//! Details of rows that clash in a key.
 use crate::cells::{Cells, Subject, push_owner};
 use crate::constraints::name_constraint;
 use std::alloc::AllocError;
@@ -8,15 +8,14 @@ use tql_detail::detail::Detail;
 use tql_detail::shown::Words;
 use tql_memory::Memory;
 
-/// The row that a row clashes with: its cells, and which row of the change it is, or none where it is a row of the
-/// table.
+/// The row that a row clashes with: its cells, and which row of the change it is, or none for a row of the table.
 #[derive(Clone, Copy)]
 pub struct Rival<'a> {
     pub cells: Cells<'a>,
     pub subject: Option<Subject>,
 }
 
-/// The row with its values: `row 2 has (A) = (7), which `.
+/// Appends the row with its values: `row 2 has (A) = (7), which `.
 fn push_row(
     words: &mut Words,
     subject: Subject,
@@ -31,7 +30,7 @@ fn push_row(
     words.push_str(", which ")
 }
 
-/// The row that has these values already: ` already holds in row 1 of the statement`.
+/// Appends the row that has these values already: ` already holds in row 1 of the statement`.
 fn push_rival(words: &mut Words, key: &Key, rival: Rival<'_>) -> Result<(), AllocError> {
     words.push_str(" already holds")?;
     if key.by_period {
@@ -46,7 +45,7 @@ fn push_rival(words: &mut Words, key: &Key, rival: Rival<'_>) -> Result<(), Allo
     }
 }
 
-/// Tells of a row that clashes with another.
+/// Appends the row, the key and the row that it clashes with.
 fn tell_clash(
     detail: &mut Detail,
     subject: Subject,
@@ -62,7 +61,8 @@ fn tell_clash(
     push_rival(&mut detail.words, key, rival)
 }
 
-/// The detail of a row that clashes with another in a key, by its number (E35). None where no memory is there for it.
+/// Returns the detail of a row that clashes with another in the key with this number (E35). None if the table has no
+/// such key, or if there is no memory for it.
 pub fn key_detail(
     memory: Memory,
     subject: Subject,

@@ -1,4 +1,4 @@
-//! Details of refused statements in words: of their rows, and of the state of transactions and readers.
+//! Details of refused statements in words: about their rows, and about the state of transactions and readers.
 #![tactic(auto)]
 
 pub mod calculations;

@@ -1,4 +1,4 @@
-//! Rows of a child table that no row of the parent table matches.
+//! Details of rows of a child table that no row of the parent table matches.
 use crate::cells::{Cells, Subject, push_owner};
 use crate::constraints::name_constraint;
 use std::alloc::AllocError;
@@ -9,7 +9,7 @@ use tql_detail::detail::Detail;
 use tql_detail::shown::{Words, push_shown};
 use tql_memory::Memory;
 
-/// The values of a child row: `(A) = (7)`, and its period with PERIOD.
+/// Appends the values of a child row: `(A) = (7)`, and its period if the reference has PERIOD.
 fn push_values(
     words: &mut Words,
     cells: Cells<'_>,
@@ -22,7 +22,7 @@ fn push_values(
     Ok(())
 }
 
-/// The name of the reference in parentheses.
+/// Appends the name of the reference in parentheses, and sets it as the constraint of the detail.
 fn name_reference(
     detail: &mut Detail,
     cells: Cells<'_>,
@@ -34,7 +34,7 @@ fn name_reference(
     detail.words.push(')')
 }
 
-/// Tells of a new child row.
+/// Appends a new child row that has no match in the parent table.
 fn tell_missing(
     detail: &mut Detail,
     subject: Subject,
@@ -55,7 +55,7 @@ fn tell_missing(
     name_reference(detail, cells, reference)
 }
 
-/// Tells of a child row whose parent is changed or removed.
+/// Appends a parent row that is changed or removed, and the child row that still references it.
 fn tell_still_referenced(
     detail: &mut Detail,
     cells: Cells<'_>,
@@ -77,8 +77,8 @@ fn tell_still_referenced(
     name_reference(detail, cells, reference)
 }
 
-/// The detail of a new row of a child table that no row of the parent table matches in a reference, by its number
-/// (E36). None where no memory is there for it.
+/// Returns the detail of a new row of a child table that no row of the parent table matches in the reference with this
+/// number (E36). None if there is no memory for it.
 pub fn missing_detail(
     memory: Memory,
     subject: Subject,
@@ -92,8 +92,8 @@ pub fn missing_detail(
     Some(detail)
 }
 
-/// The detail of a row of a child table, which a change of the parent table leaves without a match in a reference, by
-/// its number (E36). The parent table is read for the names of its columns.
+/// Returns the detail of a row of a child table that a change of the parent table leaves without a match in the
+/// reference with this number (E36). The names of its columns come from the parent table.
 pub fn referenced_detail(
     memory: Memory,
     cells: Cells<'_>,

@@ -1,4 +1,4 @@
-//! The state of transactions, the clock, the horizon and readers in words.
+//! Details about the state of transactions, the clock, the horizon and readers.
 use crate::cells::push_view;
 use std::alloc::AllocError;
 use tql_detail::detail::Detail;
@@ -7,27 +7,27 @@ use tql_memory::Memory;
 use tql_value::calendar::HIGH;
 use tql_value::value::View;
 
-/// A detail of these words alone. None where no memory is there for it.
+/// Returns a detail of these words alone. None if there is no memory for it.
 pub fn plain_detail(memory: Memory, words: &str) -> Option<Detail> {
     let words = String::from_str(memory, words).ok()?;
     Some(Detail::of(words))
 }
 
-/// Words, and a moment after them.
+/// Returns words with a moment after them.
 fn with_moment(memory: Memory, words: &str, moment: i64) -> Result<Words, AllocError> {
     let mut words = String::from_str(memory, words)?;
     push_view(&mut words, View::Moment(moment))?;
     Ok(words)
 }
 
-/// Words, and a name after them.
+/// Returns words with a name after them.
 fn with_name(memory: Memory, words: &str, name: &str) -> Result<Words, AllocError> {
     let mut words = String::from_str(memory, words)?;
     push_shown(&mut words, name)?;
     Ok(words)
 }
 
-/// The detail of a statement that does not fit the state of the transaction (E40), by whether one is open.
+/// Returns the detail of a statement that does not fit the state of the transaction (E40), by whether one is open.
 pub fn transaction_detail(memory: Memory, is_open: bool) -> Option<Detail> {
     let (words, hint) = if is_open {
         ("a transaction is open", "end it with COMMIT or ROLLBACK")
@@ -39,8 +39,8 @@ pub fn transaction_detail(memory: Memory, is_open: bool) -> Option<Detail> {
     Some(detail)
 }
 
-/// The detail of a moment that the clock cannot take (E41), by the clock and the moment of the last commit, in
-/// microseconds since 1970-01-01.
+/// Returns the detail of a moment that the clock cannot take (E41), from the clock and the moment of the last commit,
+/// in microseconds since 1970-01-01.
 pub fn clock_detail(memory: Memory, clock: i64, last: Option<i64>) -> Option<Detail> {
     if HIGH <= clock {
         return plain_detail(memory, "the clock has no moment left");
@@ -49,13 +49,13 @@ pub fn clock_detail(memory: Memory, clock: i64, last: Option<i64>) -> Option<Det
     Some(Detail::of(words))
 }
 
-/// The detail of a moment before the horizon (E45), which is in microseconds since 1970-01-01.
+/// Returns the detail of a moment before the horizon (E45), which is in microseconds since 1970-01-01.
 pub fn horizon_detail(memory: Memory, horizon: i64) -> Option<Detail> {
     let words = with_moment(memory, "the horizon is ", horizon).ok()?;
     Some(Detail::of(words))
 }
 
-/// The words of whether a reader is open.
+/// Returns the words that say whether a reader is open.
 fn open_words(memory: Memory, name: &str, is_open: bool) -> Result<Words, AllocError> {
     let mut words = with_name(memory, "reader ", name)?;
     words.push_str(if is_open {
@@ -66,7 +66,8 @@ fn open_words(memory: Memory, name: &str, is_open: bool) -> Result<Words, AllocE
     Ok(words)
 }
 
-/// The detail of a reader that a statement opens, or uses, and that is open, or is not (E46).
+/// Returns the detail of a statement that opens an open reader, uses one that is not open, or reads a table without
+/// system versioning in a reader (E46).
 pub fn reader_detail(memory: Memory, name: &str, opens: bool, is_open: bool) -> Option<Detail> {
     if is_open && !opens {
         return plain_detail(memory, "READ takes tables WITH SYSTEM VERSIONING only");
@@ -75,7 +76,7 @@ pub fn reader_detail(memory: Memory, name: &str, opens: bool, is_open: bool) -> 
     Some(Detail::of(words))
 }
 
-/// The words of an open reader that is in the way.
+/// Returns the words for the open readers that prevent a statement.
 fn reader_words(memory: Memory, name: &str, others: usize) -> Result<Words, AllocError> {
     let mut words = with_name(memory, "reader ", name)?;
     if others == 0 {
@@ -86,7 +87,7 @@ fn reader_words(memory: Memory, name: &str, others: usize) -> Result<Words, Allo
     Ok(words)
 }
 
-/// The detail of readers that are in the way (E47): the name of one that is open, and the number of the others.
+/// Returns the detail of a statement that open readers prevent (E47): the name of one, and the number of the others.
 pub fn readers_detail(memory: Memory, name: &str, others: usize) -> Option<Detail> {
     let words = reader_words(memory, name, others).ok()?;
     Some(Detail::of(words))

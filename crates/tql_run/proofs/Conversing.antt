@@ -1,4 +1,4 @@
--- From one pull to the next, and what a whole run comes to.
+-- From one pull to the next, and the outcome of a whole run.
 use Rattle.std.proofs.Common.{◌≡◌, refl, sym, ◌∙◌, ap, subst, ℕ, zero, suc, Bool, true, false, List, []}
 use Rattle.std.proofs.Common.{◌∷◌, ◌++◌, Option}
 use Rattle.std.proofs.Common.{arith, ◌+◌, ◌*◌, ◌<◌, ◌≤◌, append_assoc, append-nil, length-append, length-take}
@@ -26,9 +26,9 @@ use Rattle.tql_run.specs.declared.runner.Fault.{Fault}
 use Rattle.tql_run.specs.declared.runner.Fault.TheVariants.{Read, Write, Memory}
 use Rattle.tql_run.proofs.Writing.{wrote_first, all_asked, to_told, to_texts, refused_at, goes_on, at_stop, as_stop}
 
--- ---- so far
+-- ---- the run so far
 
--- what a sink and a listener show before and after a run
+-- the contents of the sink and the record of the listener before the run
 abbrev pub before_run : SinkChange → HearingChange → Shown
 before_run sink hearing =
     record { held = sink.held_old; writes = sink.failures_old; heard = hearing.heard_old }
@@ -36,7 +36,7 @@ before_run sink hearing =
 abbrev pub after_run : SinkChange → HearingChange → Shown
 after_run sink hearing = record { held = sink.held_new; writes = sink.failures_new; heard = hearing.heard_new }
 
--- so many pulls were made, and what is whole in the bytes that they gave before the last was answered
+-- `pulls` pulls were made, and the whole statements in the bytes from all but the last pull were answered
 pub record Converses (M : List Answer → Manner) (start : Standing) (had : Written) (pulls : ℕ) (stream : Stream)
     (after : Standing) (form : Written) (summary : Summary) (source : SourceChange) (from now : Shown) : Type 0 where
   pub script : List ℕ
@@ -102,7 +102,7 @@ converse_first M start had stream summary left failures ended from holds ready u
     one_at_most true = omega arith
     one_at_most false = omega arith
 
--- as many were answered as there are answers
+-- there are as many answers as answered statements
 as_many : (A : Answering) (s new : State) (done : List Piece) (answers : List Answer) → RunBy A s done answers new
     → length done ≡ length answers
 as_many A s new [] [] ran = refl
@@ -110,7 +110,7 @@ as_many A s new [] (x ∷ xs) ran = absurd ran
 as_many A s new (p ∷ ps) [] ran = absurd ran
 as_many A s new (p ∷ ps) (x ∷ xs) ran = ap suc (as_many A ran.0 new ps xs ran.2)
 
--- where no statement is left, all that are whole were counted
+-- if no statement is left, all whole statements were counted
 pub all_counted : (M : Manner) (s : State) (script : List ℕ) (stream : Stream) (h : Standing) (form : Written)
     (summary : Summary) (from to : Shown) → stream.ended ≡ false
     → WroteAll M s script stream h form summary from to → length (answered false script) ≡ summary.statements
@@ -127,7 +127,7 @@ script_short pulls script source few r = omega (arith, few, r.short)
 pub count_fits : (pulls n : ℕ) → pulls ≤ most_pulls → n ≤ pulls * 65_536 + 1 → n ≤ most_bytes
 count_fits pulls n few le = omega (arith, few, le)
 
--- the sink failed before the end was met
+-- the sink failed before the end of the input
 pub failed_writing : (M : Manner) (s : State) (script : List ℕ) (ended : Bool) (after : Standing) (pulls : ℕ)
     (source : SourceChange) (sink : SinkChange) (hearing : HearingChange) → ended ≡ false
     → ReadsSoFar pulls script source
@@ -223,7 +223,7 @@ refused_run M s script met after form summary source sink hearing before last pa
   };
 }
 
--- one counted refusal more is one counted answer more
+-- a refusal that stops the run was counted as a new answer
 one_counted : (bail : Bool) (had counted : Summary) → stops bail counted ≡ true
     → (IsTrue bail → had.refused ≡ 0) → counted.refused + had.statements ≤ counted.statements + had.refused
     → had.statements < counted.statements
@@ -237,7 +237,7 @@ one_counted true had counted stopped going grown =
     at_least zero e = let bad : false ≡ true = e in absurd cc
     at_least (suc n) e = omega arith
 
--- it stopped the run before the end was met
+-- a refusal stopped the run before the end of the input
 pub stopped_run : (M : List Answer → Manner) (earlier : List Answer) (s : State) (start : Standing) (had : Written)
     (pulls : ℕ) (stream later : Stream) (h after : Standing) (form all : Written) (summary counted : Summary)
     (source : SourceChange) (sink : SinkChange) (hearing : HearingChange) (now : Shown)
@@ -260,14 +260,14 @@ stopped_run M earlier s start had pulls stream later h after form all summary co
     (refused_at (M earlier) s i.script later false after all counted sink.flushed from to (same ∙ i.unended) passed_on
     (at_stop _ _ (stops (M earlier).bail counted) stopped t.is)))
 
--- a pull that gave nothing
+-- a pull that gave no bytes
 pub gives_kept : (a b c : Option (List ℕ)) (xs bytes : List ℕ) → bytes ≡ [] → Gives a xs b → Gives b bytes c
     → Gives a xs c
 gives_kept a b c xs bytes none p q =
     subst (λ (z : List ℕ). Gives a z c) (ap (λ (z : List ℕ). xs ++ z) none ∙ append-nil xs)
     (gives_on a b c xs bytes p q)
 
--- a pull of no bytes, though there was room
+-- a pull that gave no bytes although there was room
 pub met_end : {E : Type 0} (pulls room n : ℕ) (script bytes : List ℕ) (before : SourceChange) (left : Option (List ℕ))
     (failures : ℕ) (ended : Bool) → ReadsSoFar pulls script before
     → Pulls {E = E} (Ok n) room bytes (record {
@@ -295,7 +295,7 @@ met_end pulls room n script bytes before left failures ended r p none some =
 pub none_taken : (n : ℕ) (buffer : List ℕ) → n ≡ 0 → take n buffer ≡ []
 none_taken n buffer e = ap (λ (k : ℕ). take k buffer) e
 
--- a pull of some bytes
+-- a pull that gave some bytes
 pub reads_more : {E : Type 0} (pulls room n : ℕ) (script buffer bytes : List ℕ) (before : SourceChange)
     (left : Option (List ℕ)) (failures : ℕ) (ended : Bool) → ReadsSoFar pulls script before
     → Pulls {E = E} (Ok n) room (take n buffer) (record {
@@ -333,7 +333,7 @@ pub room_more : (pulls n statements counted before after : ℕ) → statements +
     → counted ≤ statements + before → n ≤ 65_536 → after ≡ counted + n → after ≤ (pulls + 1) * 65_536 + 1
 room_more pulls n statements counted before after had less few is = omega (arith, had, less, few, is)
 
--- the end was met, and the rest was answered
+-- the end of the input was reached, and the rest was answered
 pub ended_run : (M : Manner) (s : State) (script : List ℕ) (after : Standing) (form : Written) (had : Summary)
     (result : Result Summary Fault) (source : SourceChange) (sink : SinkChange) (hearing : HearingChange)
     → length (answered false script) ≡ had.statements → (IsTrue M.bail → had.refused ≡ 0)

@@ -1,4 +1,4 @@
--- A script is cut into pieces of it, and into no others.
+-- A script is cut into its pieces, and no other list of pieces is a cut of it.
 use Rattle.std.proofs.Common.{◌≡◌, ℕ, ◌==◌, Bool, true, false, List, [], ◌∷◌, ◌++◌, refl, sym, ap, subst, ◌∙◌}
 use Rattle.std.proofs.Common.{append_assoc, append-nil}
 use Rattle.std.proofs.Common.{inl, inr}
@@ -14,7 +14,7 @@ use Rattle.tql_run.specs.Cuts.{open_comment, ArePieces, ended_by, joined, IsCut,
 
 -- ---- the pieces that are cut
 
--- the bytes of a piece from a state on
+-- the remaining bytes of a piece, given the state of the scanner
 abbrev Goes : ScanState → Bool → List ℕ → Type 0
 Goes Outside finished bytes = IsPiece finished bytes
 Goes AfterDash finished bytes = IsPiece finished (45 ∷ bytes)
@@ -28,7 +28,7 @@ Goes InComment finished bytes =
     ((words : List ℕ) × (bs : List ℕ) × IsOneLine words × IsPiece finished bs × (bytes ≡ words ++ 10 ∷ bs))
     ⊎ ((finished ≡ false) × IsOneLine bytes)
 
--- what is cut from a state on
+-- the pieces that are cut, given the state of the scanner
 record Found (s : ScanState) (bytes : List ℕ) : Type 0 where
   piece : Piece
   more : List Piece
@@ -47,7 +47,7 @@ is_plain_byte : (b : ℕ) → (b == 59) ≡ false → (b == 39) ≡ false → (b
 is_plain_byte b e f g = ap (λ t. not t && (not (b == 39) && not (b == 34))) e
     ∙ ap (λ t. not t && not (b == 34)) f ∙ ap not g
 
--- a quotation mark, and what goes on in it
+-- a quotation mark, and the rest of the quoted text
 in_text : (finished : Bool) (bytes : List ℕ) → Goes InText finished bytes → IsPiece finished (39 ∷ bytes)
 in_text finished bytes (inl g) = text g.0 g.2 g.3 (ap (λ (z : List ℕ). 39 ∷ z) g.4)
 in_text finished bytes (inr g) = subst (λ f. IsPiece f (39 ∷ bytes)) (sym g.0) (open_text g.1)
@@ -60,7 +60,7 @@ in_comment : (finished : Bool) (bytes : List ℕ) → Goes InComment finished by
 in_comment finished bytes (inl g) = comment g.0 g.2 g.3 (ap (λ (z : List ℕ). 45 ∷ 45 ∷ z) g.4)
 in_comment finished bytes (inr g) = subst (λ f. IsPiece f (45 ∷ 45 ∷ bytes)) (sym g.0) (open_comment g.1)
 
--- a byte that is no `-`, outside or behind one
+-- a byte other than `-` and `;`, outside or after one `-`
 opened : (f : Bool) (b : ℕ) (bs : List ℕ) → (b == 59) ≡ false → (b == 45) ≡ false → Goes (opened_by b) f bs
     → IsPiece f (b ∷ bs)
 opened f b bs e d g = by (b == 39) refl (b == 34) refl g where
@@ -70,7 +70,7 @@ opened f b bs e d g = by (b == 39) refl (b == 34) refl g where
       subst (λ (c : ℕ). IsPiece f (c ∷ bs)) (sym (eqb-true b 34 q)) (in_name f bs (rw (p, q) at g))
   by false p false q g = plain (is_plain_byte b e p q) (no_dash b bs d) (rw (p, q) at g)
 
--- one byte more
+-- one more byte
 goes_on : (s : ScanState) (b : ℕ) (f : Bool) (bs : List ℕ) → (b == 59) && can_end s ≡ false
     → Goes (state_after s b) f bs → Goes s f (b ∷ bs)
 goes_on Outside b f bs e g = by (b == 59) refl (b == 45) refl e g where
@@ -108,7 +108,7 @@ goes_on InComment b f bs e g = by (b == 10) refl g where
     more (inl h) = inl (b ∷ h.0, h.1, lacks_more 10 b h.0 p h.2, h.3, ap (λ (z : List ℕ). b ∷ z) h.4)
     more (inr h) = inr (h.0, lacks_more 10 b bs p h.1)
 
--- nothing more
+-- no more bytes
 goes_nowhere : (s : ScanState) → Goes s false []
 goes_nowhere Outside = nothing
 goes_nowhere AfterDash = plain refl refl nothing
@@ -163,12 +163,12 @@ not_true : (b : Bool) → not b ≡ true → b ≡ false
 not_true true e = absurd (cc)
 not_true false e = refl
 
--- one byte is cut with what comes
+-- a byte that ends no piece becomes the first byte of the next piece
 one_byte : (s : ScanState) (b : ℕ) (bs : List ℕ) (p : Piece) (ps : List Piece) → (b == 59) && can_end s ≡ false
     → cut (state_after s b) bs ≡ p ∷ ps → cut s (b ∷ bs) ≡ record p { text = b ∷ p.text } ∷ ps
 one_byte s b bs p ps e r = rw (e, r) (refl)
 
--- a state that goes on up to this byte
+-- a state that lasts until this byte
 record Quote (s : ScanState) (close : ℕ) : Type 0 where
   no_end : can_end s ≡ false
   after : (c : ℕ) → state_after s c ≡ (if c == close then Outside else s)
@@ -182,7 +182,7 @@ in_names = record { no_end = refl; after = λ c. refl }
 in_comments : Quote InComment 10
 in_comments = record { no_end = refl; after = λ c. refl }
 
--- it does not end a piece, and goes on after each other byte
+-- another byte in that state: the piece does not end, and the state remains
 quoted_byte : (s : ScanState) (close c : ℕ) (bs : List ℕ) (p : Piece) (ps : List Piece) → Quote s close
     → (c == close) ≡ false → cut s bs ≡ p ∷ ps → cut s (c ∷ bs) ≡ record p { text = c ∷ p.text } ∷ ps
 quoted_byte s close c bs p ps q e r =
@@ -196,7 +196,7 @@ first_lacks close c words l =
 rest_lacks : (close c : ℕ) (words : List ℕ) → Lacks close (c ∷ words) → Lacks close words
 rest_lacks close c words l = (and_parts (not (c == close)) (list_all (λ d. not (d == close)) words) l).1
 
--- up to the end of a quote
+-- bytes up to the end of a quote
 quoted : (s : ScanState) (close : ℕ) (words bs : List ℕ) (p : Piece) (ps : List Piece) → Quote s close
     → (close == close) ≡ true → Lacks close words → cut Outside bs ≡ p ∷ ps
     → cut s (words ++ close ∷ bs) ≡ record p { text = words ++ close ∷ p.text } ∷ ps
@@ -207,7 +207,7 @@ quoted s close (w ∷ words) bs p ps q same l e =
     quoted_byte s close w (words ++ close ∷ bs) (record p { text = words ++ close ∷ p.text }) ps q
     (first_lacks close w words l) (quoted s close words bs p ps q same (rest_lacks close w words l) e)
 
--- up to the end of the bytes, where none is there
+-- bytes up to the end of the script, in an open quote
 unquoted : (s : ScanState) (close : ℕ) (words : List ℕ) → Quote s close → Lacks close words
     → cut s words ≡ record { text = words; finished = false } ∷ []
 unquoted s close [] q l = refl
@@ -215,7 +215,7 @@ unquoted s close (w ∷ words) q l =
     quoted_byte s close w words (record { text = words; finished = false }) [] q (first_lacks close w words l)
     (unquoted s close words q (rest_lacks close w words l))
 
--- the bytes of a piece, and what is cut behind them
+-- the bytes after a piece, and the pieces that are cut from them
 record Behind (finished : Bool) (rest : List ℕ) (ps : List Piece) : Type 0 where
   ended : MatchBool finished ((more : List ℕ) × (rest ≡ 59 ∷ more) × (cut Outside more ≡ ps)) ((rest ≡ []) × (ps ≡ []))
 
@@ -236,23 +236,23 @@ plain_parts b e =
     let two = and_parts (not (b == 39)) (not (b == 34)) one.1 in
     (not_true (b == 59) one.0, not_true (b == 39) two.0, not_true (b == 34) two.1)
 
--- a plain byte that is no `-` is followed by the outside
+-- after a plain byte that is not `-`, the scanner is outside
 plain_opens : (b : ℕ) → is_plain b ≡ true → opened_by b ≡ Outside
 plain_opens b e =
     let parts = plain_parts b e in
     ap (λ t. if t then InText else (if b == 34 then InName else Outside)) parts.1
     ∙ ap (λ t. if t then InName else Outside) parts.2
 
--- a piece in front of what is behind it
+-- a piece is cut off before the rest
 abbrev Cuts : Bool → List ℕ → List Piece → ScanState → List ℕ → Type 0
 Cuts f rest ps s bytes = cut s (bytes ++ rest) ≡ record { text = bytes; finished = f } ∷ ps
 
--- outside, and behind a `-` that the bytes do not make a comment of
+-- the same outside, and after a `-` unless the bytes complete a comment
 abbrev CutsEither : Bool → List ℕ → List Piece → List ℕ → Type 0
 CutsEither f rest ps bytes =
     Cuts f rest ps Outside bytes × (IsFalse (starts_with_dash bytes) → Cuts f rest ps AfterDash bytes)
 
--- a byte that opens a quote, and the quote
+-- a quoted part, up to the byte that closes it
 quote_cut : (f : Bool) (rest : List ℕ) (ps : List Piece) (s : ScanState) (close : ℕ) (words bs : List ℕ) → Quote s close
     → (close == close) ≡ true → Lacks close words → Cuts f rest ps Outside bs
     → Cuts f rest ps s (words ++ close ∷ bs)
@@ -267,7 +267,7 @@ open_cut rest ps s close words q l b =
     ap (λ z. cut s (words ++ z)) b.ended.0 ∙ ap (cut s) (append-nil words) ∙ unquoted s close words q l
     ∙ ap (λ z. record { text = words; finished = false } ∷ z) (sym b.ended.1)
 
--- a byte in front
+-- one byte before the others
 front : (f : Bool) (rest : List ℕ) (ps : List Piece) (s : ScanState) (b : ℕ) (bs : List ℕ)
     → (b == 59) && can_end s ≡ false → Cuts f rest ps (state_after s b) bs → Cuts f rest ps s (b ∷ bs)
 front f rest ps s b bs e k = one_byte s b (bs ++ rest) (record { text = bs; finished = f }) ps e k
@@ -329,7 +329,7 @@ piece_cut f bytes (open_name {words = words} l) rest ps b =
 piece_cut f bytes (open_comment {words = words} l) rest ps b =
     comment_cut false rest ps words (45 ∷ 45 ∷ words) (open_cut rest ps InComment 10 words in_comments l b) refl
 
--- pieces of a script are cut from it
+-- cutting the joined pieces gives these pieces
 all_cut : (pieces : List Piece) → ArePieces pieces → cut Outside (joined pieces) ≡ pieces
 all_cut [] are = absurd are
 all_cut (p ∷ ps) are = by p.finished refl are.1 (all_cut ps) where

@@ -1,4 +1,4 @@
--- The machine, the engine and the check refuse a piece for the faults that are seen at once.
+-- The reference model, the engine and the check refuse a piece for the faults that are visible without parsing.
 use Rattle.std.proofs.Common.{◌≡◌, refl, sym, subst, inl, inr, ◌<◌, ◌≤◌, ℕ, Bool, true, false, arith, List, length}
 use Rattle.std.proofs.Common.{IsTrue, IsFalse}
 use Rattle.tql_spec.specs.Refusal.{Refusal}
@@ -13,7 +13,7 @@ use Rattle.tql_run.specs.Ending.{EndsTransaction, Responds}
 use Rattle.tql_run.specs.Pieces.{HasFault, IsCutFault, RefusesFaults}
 use Rattle.tql_run.specs.Responding.{Answered, Standing}
 
--- such a fault is the piece's sense
+-- a visible fault is the sense of the piece
 fault_sense : (p : Piece) (e : Refusal) → HasFault p e → HasSense p (Faulty e)
 fault_sense p e (inl (is, long)) = subst (λ (x : Refusal). HasSense p (Faulty x)) (sym is) long
 fault_sense p e (inr (short, cut, inl (is, none))) =
@@ -35,7 +35,7 @@ checks_refuse = record {
 
 -- ---- the ends of transactions
 
--- its text is no fault of bytes
+-- the text of a COMMIT or a ROLLBACK has no fault in its bytes
 ends_whole : (text : List ℕ) → EndsTransaction text → IsWhole (finished text)
 ends_whole text (inl c) = c.0
 ends_whole text (inr r) = r.0
@@ -44,12 +44,13 @@ true_or_false : (b : Bool) → IsTrue b → IsFalse b → ⊥
 true_or_false true t f = cc
 true_or_false false t f = cc
 
--- so no piece with a fault that is seen at once is one of these
+-- no piece with a visible fault is a COMMIT or a ROLLBACK
 not_at_once : (p : Piece) (e : Refusal) → HasFault p e → IsTrue p.finished → EndsTransaction p.text → ⊥
 not_at_once p e (inl (is, long)) f ends = let w = (ends_whole p.text ends).short in omega (arith, long, w)
 not_at_once p e (inr (short, cut, why)) f ends = true_or_false p.finished f cut
 
--- pieces are refused at once as the machine does it, and for want of memory where they have too many bytes to be sure
+-- the engine refuses pieces for visible faults as the model does, and pieces over the size limit possibly for lack of
+-- memory
 pub responds_refuse : RefusesFaults Responds
 responds_refuse = record {
   at_once = λ s p e f. (replies_refuse.at_once s p e f, λ whole short ends. absurd (not_at_once p e f whole ends));
@@ -59,7 +60,7 @@ responds_refuse = record {
 
 -- ---- pieces
 
--- a piece that is a finished text
+-- a piece with a finished text
 pub text_answered : (A : Answering) (s : State) (p : Piece) (text : List ℕ) (answer : Answer) (after : Standing)
     → p.text ≡ text → IsTrue p.finished
     → Answered A s (finished text) answer after → Answered A s p answer after
@@ -78,7 +79,7 @@ long_answered A law s p after st long = record {
   stands = st;
 }
 
--- a piece that no `;` ends
+-- a piece without a closing `;`
 pub cut_answered : (A : Answering) → RefusesFaults A
     → (s : State) (p : Piece) (text : List ℕ) (after : Standing) (e : Refusal) → after s → p.text ≡ text
     → IsFalse p.finished

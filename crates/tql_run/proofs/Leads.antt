@@ -10,7 +10,7 @@ use Rattle.tql_spec.proofs.TokenLaws.{end_skipped, blank_no_comment}
 use Rattle.tql_lex.proofs.GapLemmas.{gap_before, all_skipped}
 use Rattle.tql_run.specs.Cuts.{BeginsAt, PiecesBegin}
 
--- a comment up to its end, and a gap, are passed over
+-- a comment up to its end, and a gap, are skipped
 line_skipped : (words more : List ℕ) → IsOneLine words
     → without_lead true (words ++ 10 ∷ more) ≡ without_lead false more
 line_skipped [] more one = refl
@@ -34,7 +34,7 @@ no_longer false (b ∷ bs) = by (is_blank b || begins_comment b bs) refl (no_lon
   by true e k = rw e (omega (arith, k))
   by false e k = rw e (omega arith)
 
--- what is left as it is begins with neither a blank nor a comment
+-- bytes from which nothing is skipped begin with neither a blank nor a comment
 left_whole : (b : ℕ) (rest : List ℕ) → without_lead false (b ∷ rest) ≡ b ∷ rest
     → is_blank b || begins_comment b rest ≡ false
 left_whole b rest e = by (is_blank b || begins_comment b rest) refl where

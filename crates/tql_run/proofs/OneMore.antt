@@ -1,4 +1,4 @@
--- Lists, notes, texts, devices and streams: one more of each.
+-- Lists, notes, texts, devices and streams with one more element.
 use Rattle.std.proofs.Common.{◌≡◌, refl, sym, ◌∙◌, ap, subst, ℕ, zero, suc, Bool, true, false, List, [], ◌∷◌, Option}
 use Rattle.std.proofs.Common.{Some, arith, ◌+◌, ◌<◌, ◌≤◌, ◌==◌, cond, append_assoc, append-nil}
 use Rattle.std.proofs.Common.{length-append, add-zero}
@@ -27,7 +27,7 @@ run_on A s mid new [] (x ∷ xs) p r ran a = absurd ran
 run_on A s mid new (q ∷ qs) [] p r ran a = absurd ran
 run_on A s mid new (q ∷ qs) (x ∷ xs) p r ran a = (ran.0, ran.1, run_on A ran.0 mid new qs xs p r ran.2 a)
 
--- one answer counted
+-- the count of refusals after one more answer
 abbrev pub counts_one : ℕ → Answer → ℕ
 counts_one a r = a + cond (is_refused r) 1 0
 
@@ -51,7 +51,7 @@ count_on answers r = fold_on zero answers r ∙ one_more (is_refused r) (count_b
 
 -- ---- notes
 
--- one more answer
+-- the notes for one more answer
 pub notes_on : (n : ℕ) (places : List Placed) (answers : List Answer) (p : Placed) (r : Answer)
     → length places ≡ length answers
     → notes_from n (places ++ p ∷ []) (answers ++ r ∷ []) ≡ notes_from n places answers ++ note_of
@@ -71,7 +71,7 @@ pub none_noted : (n : ℕ) (ps : List Placed) → notes_from n ps [] ≡ []
 none_noted n [] = refl
 none_noted n (p ∷ ps) = refl
 
--- of what is not answered nothing is told
+-- statements without an answer have no notes
 pub notes_within : (n : ℕ) (places others : List Placed) (answers : List Answer) → length places ≡ length answers
     → notes_from n (places ++ others) answers ≡ notes_from n places answers
 notes_within n [] others [] e = none_noted n others ∙ sym (none_noted n [])
@@ -82,7 +82,7 @@ notes_within n (x ∷ xs) others (y ∷ ys) e =
 
 -- ---- texts
 
--- one more answer
+-- the text of one more answer
 pub texts_on : (T : Texts) (earlier : List Answer) (n : ℕ) (places : List Placed) (answers : List Answer) (p : Placed)
     (r : Answer) (bytes text : List ℕ) → length places ≡ length answers → AreTextsFrom T earlier n places answers bytes
     → T (earlier ++ answers) (n + length answers) (line_of p) r text
@@ -101,7 +101,7 @@ texts_on T earlier n (x ∷ xs) (y ∷ ys) p r bytes text e (here, (others, part
     let later = texts_on T (earlier ++ y ∷ []) (suc n) xs ys p r others text (omega (arith, e)) are last in
     (here, (others ++ text, ap (λ (l : List ℕ). l ++ text) parts ∙ append_assoc here others text, one, later))
 
--- the statements behind those that were answered have no text
+-- statements without an answer have no text
 pub texts_within : (T : Texts) (earlier : List Answer) (n : ℕ) (places others : List Placed) (answers : List Answer)
     (bytes : List ℕ) → AreTextsFrom T earlier n places answers bytes
     → AreTextsFrom T earlier n (places ++ others) answers bytes
@@ -136,7 +136,7 @@ hears_none a = record { told = λ zs e. (zs, e, sym (append-nil zs)) }
 
 -- ---- devices
 
--- a push by what it came to
+-- equal results of a push can be replaced
 pub came_to : {X E : Type 0} (style : Style) {fails : Bool} {had form : Written} {number line : ℕ} {answer : Answer}
     {x r : Result X E} {o n : Option (List ℕ)} {b k : ℕ} → x ≡ r
     → PassesOn style fails had form number line answer r o n b k
@@ -156,18 +156,18 @@ appends_on a b c x y p q = record { holds = λ zs e. q.holds (zs ++ x) (p.holds 
 abbrev pub is_finished : Piece → Bool
 is_finished p = p.finished
 
--- a finished piece is kept, another not
+-- the filter keeps a finished piece at the front
 pub kept : (p : Piece) (ps : List Piece) → p.finished ≡ true → filter is_finished (p ∷ ps) ≡ p ∷ filter is_finished ps
 kept p ps e = ap (λ b. cond b (p ∷ filter is_finished ps) (filter is_finished ps)) e
 
 pub dropped : (p : Piece) (ps : List Piece) → p.finished ≡ false → filter is_finished (p ∷ ps) ≡ filter is_finished ps
 dropped p ps e = ap (λ b. cond b (p ∷ filter is_finished ps) (filter is_finished ps)) e
 
--- all of these are finished
+-- all of these pieces are finished
 abbrev pub are_finished : List Piece → Bool
 are_finished ps = list_all is_finished ps
 
--- finished pieces are all kept
+-- the filter keeps finished pieces
 pub kept_all : (done others : List Piece) → are_finished done ≡ true
     → filter is_finished (done ++ others) ≡ done ++ filter is_finished others
 kept_all [] others e = refl
@@ -196,18 +196,18 @@ pub none_pass : (ps : List Piece) → IsTrue (list_all (λ (p : Piece). not p.fi
 none_pass [] e = refl
 none_pass (p ∷ ps) e = passed_by p ps e (none_pass ps (others_fail p ps e p.finished refl)) p.finished refl
 
--- where none is left, none is asked
+-- if no statement is left, none is to be answered
 pub asked_none : (ended : Bool) (left : List ℕ) → HasNone ended left → answered ended left ≡ []
 asked_none true left none = none.at_end refl
 asked_none false left none = none_pass (statements left) none.whole
 
--- what is asked of a script are the statements that were answered, and those that are left
+-- the statements of a script to be answered: the answered ones, followed by the remaining ones
 pub asked_of : (ended : Bool) (script left : List ℕ) (done : List Piece) → (IsFalse ended → IsTrue (are_finished done))
     → statements script ≡ done ++ statements left → answered ended script ≡ done ++ answered ended left
 asked_of true script left done all e = e
 asked_of false script left done all e = ap (filter is_finished) e ∙ kept_all done (statements left) (all refl)
 
--- nothing follows
+-- the case in which no more bytes follow
 pub now_is : (ended : Bool) (script left : List ℕ) (done : List Piece)
     → ((more : List ℕ) → MayFollow ended more → statements (script ++ more) ≡ done ++ statements (left ++ more))
     → statements script ≡ done ++ statements left
@@ -227,7 +227,7 @@ pub even_more : (places : List Placed) (answers : List Answer) (p : Placed) (r :
     → length places ≡ length answers → length (places ++ p ∷ []) ≡ length (answers ++ r ∷ [])
 even_more places answers p r e = length_on places p ∙ ap suc e ∙ sym (length_on answers r)
 
--- what was told of all answers is what is told of them in the script
+-- the notes for all answers are the notes in the script
 pub told_all : (script : List ℕ) (places others : List Placed) (answers : List Answer) (h0 h1 : Option (List Heard))
     → placed_statements script ≡ places ++ others → length places ≡ length answers
     → Hears h0 (notes_of places answers) h1 → Hears h0 (notes_of (placed_statements script) answers) h1
@@ -235,7 +235,7 @@ told_all script places others answers h0 h1 parts even told =
     subst (λ (notes : List Heard). Hears h0 notes h1) (sym (ap (λ (ps : List Placed). notes_of ps answers) parts
     ∙ notes_within 1 places others answers even)) told
 
--- and so are their texts
+-- the texts of all answers are the texts in the script
 pub texts_all : (T : Texts) (script : List ℕ) (places others : List Placed) (answers : List Answer) (bytes : List ℕ)
     → placed_statements script ≡ places ++ others → AreTexts T places answers bytes
     → AreTexts T (placed_statements script) answers bytes
@@ -243,7 +243,7 @@ texts_all T script places others answers bytes parts are =
     subst (λ (ps : List Placed). AreTexts T ps answers bytes) (sym parts)
     (texts_within T [] 1 places others answers bytes are)
 
--- what was told, with what is told of one more answer
+-- the notes, with those for one more answer
 pub told_more : (places : List Placed) (answers : List Answer) (place : Placed) (answer : Answer) (number line : ℕ)
     (h0 h1 h2 : Option (List Heard)) → length places ≡ length answers → number ≡ length answers → line ≡ line_of place
     → Hears h0 (notes_of places answers) h1 → Hears h1 (note_of (number + 1) line answer) h2
@@ -256,7 +256,7 @@ told_more places answers place answer number line h0 h1 h2 even count on had tol
     (hears_on h0 h1 h2 (notes_of places answers) (note_of (1 + length answers) (line_of place) answer) had
     (subst (λ (notes : List Heard). Hears h1 notes h2) at told))
 
--- a text by the number of its answer and the line of its statement
+-- a text, given the number of its answer and the line of its statement
 pub text_at : (T : Texts) (answers : List Answer) (place : Placed) (answer : Answer) (number line : ℕ) (text : List ℕ)
     → number ≡ length answers → line ≡ line_of place → T answers (number + 1) line answer text
     → T answers (1 + length answers) (line_of place) answer text
@@ -265,7 +265,7 @@ text_at T answers place answer number line text count on is =
     subst (λ (n : ℕ). T answers n (line_of place) answer text) same
     (subst (λ (l : ℕ). T answers (number + 1) l answer text) on is)
 
--- a line that is not too great is counted
+-- a line number below the maximum is counted exactly
 pub line_is : (script passed used : List ℕ) (p : Placed) (on : ℕ) → on ≡ capped (line_of p)
     → length p.before + length p.piece.text ≤ length (passed ++ used) → (rest : List ℕ)
     → script ≡ (passed ++ used) ++ rest

@@ -1,4 +1,4 @@
--- The push of an answer in a form that had written others, and the flush after it.
+-- The push of an answer in a form that has written earlier answers, and the flush after it.
 use Rattle.std.proofs.Common.{◌∙◌, subst, ℕ, Bool, List, [], ◌∷◌, ◌++◌, Option, inl, inr, Ok, Err}
 use Rattle.std.proofs.Common.{append_assoc, append-nil}
 use Rattle.std.specs.Prelude.{Result, IsTrue, OnErr, is_err}
@@ -7,12 +7,12 @@ use Rattle.tql_result.specs.Devices.{Appends, Counts, HasFailed}
 use Rattle.tql_run.specs.Texts.{Texts, Written, Writes, PassesOn, style_after, written_after}
 use Rattle.tql_run.proofs.OneMore.{appends_on}
 
--- what was written since some answers, with one more
+-- the answers written since the earlier ones, with one more
 wrote_on : (form : Written) (before earlier : List Answer) (answer : Answer) → form ((before ++ earlier) ++ answer ∷ [])
     → written_after before form (earlier ++ answer ∷ [])
 wrote_on form before earlier answer w = subst form (append_assoc before earlier (answer ∷ [])) w
 
--- the answer was written whole, and the sink flushed where that is asked for
+-- the answer was completely written, and the sink flushed if requested
 pub pushed_whole : {X E : Type 0} (T : Texts) (reported : Answer → Bool) (before : List Answer) (fails : Bool)
     (had form : Written) (number line : ℕ) (answer : Answer) (u : X) (result : Result X E) (o m n : Option (List ℕ))
     (b k j : ℕ) → Writes {T = X} {E = E} T had form number line answer (Ok u) o m b k
@@ -49,7 +49,7 @@ pushed_whole T reported before fails had form number line answer u (Err e) o m n
       failure = subst (λ (x : ℕ). HasFailed x j) p.pushes.no_failure counted;
     }
 
--- a beginning of it was written
+-- a proper prefix of the answer was written
 pub pushed_cut : {X E : Type 0} (T : Texts) (reported : Answer → Bool) (before : List Answer) (fails : Bool)
     (had form : Written) (number line : ℕ) (answer : Answer) (e : E) (o n : Option (List ℕ)) (b k : ℕ)
     → Writes {T = X} {E = E} T had form number line answer (Err e) o n b k

@@ -1,4 +1,4 @@
--- In the plain manner what was written is the text of the answers.
+-- In the plain style, the text written is the text of the answers.
 use Rattle.std.proofs.Common.{◌≡◌, sym, ◌∙◌, ap, subst, ℕ, suc, true, false, inl, inr, List, [], ◌∷◌, Ok, Err}
 use Rattle.std.specs.Prelude.{◌++◌, ◌⊎◌, IsTrue, Result, ⊤}
 use Rattle.tql_spec.specs.Answer.{Answer}
@@ -16,7 +16,7 @@ use Rattle.tql_run.specs.declared.runner.Summary.{Summary}
 use Rattle.tql_run.specs.declared.runner.Fault.{Fault}
 use Rattle.tql_run.specs.declared.runner.Fault.TheVariants.{Read, Write, Memory}
 
--- texts of many answers
+-- the texts of several answers
 plain_from : (earlier : List Answer) (n : ℕ) (places : List Placed) (answers : List Answer) (bytes : List ℕ)
     → AreTextsFrom plain_texts earlier n places answers bytes → bytes ≡ answers_text answers
 plain_from earlier n [] [] bytes are = are
@@ -30,7 +30,7 @@ pub texts_plain : (places : List Placed) (answers : List Answer) (bytes : List �
     → AreTexts plain_texts places answers bytes → bytes ≡ answers_text answers
 texts_plain places answers bytes are = plain_from [] 1 places answers bytes are
 
--- a beginning of the last
+-- a proper prefix of the last text
 pub cuts_plain : (A : Answering) (places : List Placed) (answers : List Answer) (text : List ℕ)
     → CutsLastIn (plainly A) places answers text → CutsLast answers text
 cuts_plain A places answers text c = record {
@@ -44,7 +44,7 @@ cuts_plain A places answers text c = record {
   is = c.is ∙ ap (λ (l : List ℕ). l ++ c.front) (texts_plain places c.earlier c.before c.texts);
 }
 
--- a run in the plain manner
+-- a run in the plain style
 pub runs_plain : (A : Answering) (s : State) (after : Standing) (source : SourceChange) (sink : SinkChange)
     (hearing : HearingChange) (result : Result Summary Fault)
     → RunsIn (plainly A) s after (λ _. ⊤) source sink hearing result

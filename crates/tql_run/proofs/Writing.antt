@@ -30,7 +30,7 @@ use Rattle.tql_run.proofs.OneMore.{run_on, length_on, count_on, texts_on, line_n
 use Rattle.tql_run.proofs.OneMore.{appends_on, are_finished, finished_on, asked_none, asked_of, now_is, placed_now}
 use Rattle.tql_run.proofs.OneMore.{even_more, told_all, texts_all, told_more, text_at, line_is}
 
--- ---- what was written
+-- ---- answers and texts written so far
 
 pub wrote_first : (M : Manner) (s : State) (stream : Stream) (h : Standing) (form : Written) (summary : Summary)
     (from : Shown) → Holds stream [] [] → h s → form [] → summary.statements ≡ 0 → summary.refused ≡ 0
@@ -61,7 +61,7 @@ wrote_first M s stream h form summary from holds st fresh a b = record {
   };
 }
 
--- one more answer, of which what was told and written is not said yet
+-- one more answer, before its notes and its text are considered
 record Further (A : Answering) (s : State) (script : List ℕ) (stream : Stream) (after : Standing) (answer : Answer)
     (was : List Answer) (places : List Placed) : Type 0 where
   passed : List ℕ
@@ -117,7 +117,7 @@ further M s script now after h new form summary answer from to short t takes =
     must_be true ended e f = refl
     must_be false ended e f = let no : true ≡ false = sym (f refl) ∙ e in absurd cc
 
--- one more answer, whole
+-- one more answer, completely written
 wrote_one : {X E : Type 0} (fails : Bool) (M : Manner) (s : State) (script : List ℕ) (now after : Stream) (h new :
     Standing)
     (had form : Written) (summary : Summary) (answer : code.Answer) (from to later : Shown) (line : ℕ)
@@ -287,7 +287,7 @@ wrote_cut {X = X} {E = E} fails M s script now after h new had form summary answ
       }));
     }))
 
--- what was written stands for another responder and another splitter that hold the same
+-- the same for another splitter in the same position, and a responder that represents the same states
 pub wrote_as : (M : Manner) (s : State) (script : List ℕ) (now after : Stream) (h new : Standing) (form : Written)
     (summary : Summary) (from to later : Shown) → (t : WroteTo M s script now h form summary from to)
     → Holds after t.passed t.left → (IsTrue now.ended → IsTrue after.ended) → ((s : State) → h s → new s)
@@ -331,7 +331,7 @@ wrote_as M s script now after h new form summary from to later t holds ends stan
     still_false false c e f = refl
     still_false true c e f = let bad : true ≡ false = sym (f refl) ∙ e in absurd cc
 
--- ---- where no statement is left
+-- ---- no statement is left
 
 pub wrote_all : (M : Manner) (s : State) (script : List ℕ) (now after : Stream) (h new : Standing) (form : Written)
     (summary : Summary) (from to : Shown) → WroteTo M s script now h form summary from to → AnswersNone now after h new
@@ -342,7 +342,7 @@ wrote_all M s script now after h new form summary from to t n =
     (λ e. n.none.ended ∙ e) n.stands (appends_none to.held) refl refl in
     record { to = u.0; none = subst (HasNone after.ended) (sym u.1) none.none }
 
--- the statements that were answered are all
+-- the answered statements are all statements of the script
 pub all_asked : (M : Manner) (s : State) (script : List ℕ) (stream : Stream) (h : Standing) (form : Written)
     (summary : Summary) (from to : Shown) → (t : WroteAll M s script stream h form summary from to)
     → answered stream.ended script ≡ t.to.wrote.done
@@ -351,14 +351,14 @@ all_asked M s script stream h form summary from to t =
     asked_of stream.ended script t.to.left w.done w.finished (now_is stream.ended script t.to.left w.done w.first)
     ∙ ap (λ (ps : List Piece). w.done ++ ps) (asked_none stream.ended t.to.left t.none) ∙ append-nil w.done
 
--- where they stand in the script
+-- the places of the statements in the script
 to_places : (M : Manner) (s : State) (script : List ℕ) (stream : Stream) (h : Standing) (form : Written)
     (summary : Summary) (from to : Shown) → (t : WroteTo M s script stream h form summary from to)
     → placed_statements script ≡ t.wrote.places ++ placed_from t.passed t.left
 to_places M s script stream h form summary from to t =
     placed_now stream.ended script t.passed t.left t.wrote.places t.wrote.placed
 
--- what was told of them
+-- the notes for the answers, in terms of the script
 pub to_told : (M : Manner) (s : State) (script : List ℕ) (stream : Stream) (h : Standing) (form : Written)
     (summary : Summary) (from to : Shown) → (t : WroteTo M s script stream h form summary from to)
     → Hears from.heard (notes_of (placed_statements script) t.wrote.answers) to.heard
@@ -367,7 +367,7 @@ to_told M s script stream h form summary from to t =
     told_all script w.places (placed_from t.passed t.left) w.answers from.heard to.heard
     (to_places M s script stream h form summary from to t) w.even w.heard
 
--- what was written of them
+-- the texts of the answers, in terms of the script
 pub to_texts : (M : Manner) (s : State) (script : List ℕ) (stream : Stream) (h : Standing) (form : Written)
     (summary : Summary) (from to : Shown) → (t : WroteTo M s script stream h form summary from to)
     → AreTexts M.style.texts (placed_statements script) t.wrote.answers t.wrote.text
@@ -376,7 +376,7 @@ to_texts M s script stream h form summary from to t =
     texts_all M.style.texts script w.places (placed_from t.passed t.left) w.answers w.text
     (to_places M s script stream h form summary from to t) w.texts
 
--- a flush
+-- after a successful flush
 all_flushed : (M : Manner) (s : State) (script : List ℕ) (stream : Stream) (h : Standing) (form : Written)
     (summary : Summary) (from to later : Shown) → WroteAll M s script stream h form summary from to
     → Appends to.held [] later.held → later.writes ≡ to.writes → later.heard ≡ to.heard
@@ -411,7 +411,7 @@ ready_flushed M s script stream h form summary from to later t a e same =
     by_case true t = refusal_flushed M s script stream h form summary from to later t a e same
     by_case false t = all_flushed M s script stream h form summary from to later t a e same
 
--- where nothing stops the run, none of its answers is a refusal that does
+-- if the run is not stopped, no answer is a refusal that stops it
 pub goes_on : (bail : Bool) (summary : Summary) → stops bail summary ≡ false → IsTrue bail → summary.refused ≡ 0
 goes_on true summary e b = by_test (summary.refused == 0) refl e
   where
@@ -420,17 +420,17 @@ goes_on true summary e b = by_test (summary.refused == 0) refl e
     by_test false q f = let bad : true ≡ false = f in absurd cc
 goes_on false summary e b = let bad : false ≡ true = b in absurd cc
 
--- and where none is, nothing stops it
+-- if no answer is a refusal that stops the run, it is not stopped
 pub not_stopped : (bail : Bool) (summary : Summary) → (IsTrue bail → summary.refused ≡ 0) → stops bail summary ≡ false
 not_stopped true summary going = ap (λ (n : ℕ). not (n == 0)) (going refl)
 not_stopped false summary going = refl
 
--- where something stops it, that is to do so
+-- if the run is stopped, `bail` is set
 must_bail : (bail : Bool) (summary : Summary) → stops bail summary ≡ true → IsTrue bail
 must_bail true summary e = refl
 must_bail false summary e = let bad : false ≡ true = e in absurd cc
 
--- a flush that fails
+-- a failed flush
 pub ready_unflushed : (fails : Bool) → IsTrue fails → (M : Manner) (s : State)
     (script : List ℕ) (stream : Stream) (h : Standing) (form : Written) (summary : Summary) (from to later : Shown)
     → WroteReady M s script stream h form summary from to
@@ -487,7 +487,7 @@ ready_unflushed fails may M s script stream h form summary from to later t a f s
 
 -- ---- a refusal that stops the run
 
--- by its counts the last answer is one
+-- if the counts stop the run, the last answer is a refusal
 wrote_refusal : (M : Manner) (s : State) (script : List ℕ) (stream : Stream) (h : Standing) (form : Written)
     (summary : Summary) (from to : Shown) (earlier : List Answer) (last : Answer)
     → (t : WroteTo M s script stream h form summary from to) → t.wrote.answers ≡ earlier ++ last ∷ []
@@ -516,7 +516,7 @@ wrote_refusal M s script stream h form summary from to earlier last t all none s
     refused_last Accepted all = absurd (some summary.refused (t.wrote.counts.refused
         ∙ ap (λ (xs : List Answer). count_by is_refused xs) all ∙ count_on earlier Accepted ∙ none) stopped)
 
--- one more answer, whole, and it is the refusal that stops the run
+-- one more answer, completely written: the refusal that stops the run
 pub wrote_stop : {X E : Type 0} (fails : Bool) (M : Manner) (s : State) (script : List ℕ) (now after : Stream) (h new
     : Standing)
     (had form : Written) (summary counted : Summary) (answer : code.Answer) (from to later : Shown) (line : ℕ)
@@ -538,7 +538,7 @@ wrote_stop fails M s script now after h new had form summary counted answer from
 
 -- ---- more bytes, and the end
 
--- more bytes are fed
+-- more bytes were fed
 pub wrote_fed : (M : Manner) (s : State) (script bytes : List ℕ) (now after : Stream) (h : Standing) (form : Written)
     (summary : Summary) (from to : Shown)
     → now.ended ≡ false → WroteTo M s script now h form summary from to → Feeds now after bytes
@@ -577,7 +577,7 @@ wrote_fed M s script bytes now after h form summary from to unended t fed =
       };
     }
 
--- the end is told
+-- the end of the script was reported
 pub wrote_ended : (M : Manner) (s : State) (script : List ℕ) (now after : Stream) (h : Standing) (form : Written)
     (summary : Summary) (from to : Shown) → WroteTo M s script now h form summary from to → Finishes now after
     → WroteTo M s script after h form summary from to
@@ -640,7 +640,7 @@ refused_at M s script stream ended h form summary is_flushed from to same passed
       flushed = passed_on;
     }
 
--- by what stops the run
+-- the outcome, depending on whether the run is stopped
 pub wrote_rest : (M : Manner) (s : State) (script : List ℕ) (stream : Stream) (h : Standing)
     (form : Written) (summary : Summary) (is_flushed : Bool) (from to : Shown) → stream.ended ≡ true
     → IsTrue is_flushed → WroteReady M s script stream h form summary from to
@@ -657,7 +657,7 @@ wrote_rest M s script stream h form summary is_flushed from to ended passed_on t
     by_case true t = refused_at M s script stream true h form summary is_flushed from to ended passed_on t
     by_case false t = wrote_script M s script stream h form summary is_flushed from to ended passed_on t
 
--- by which case it is
+-- the first case of a test that is true
 pub at_stop : (P Q : Type 0) (b : Bool) → b ≡ true → MatchBool b P Q → P
 at_stop P Q true e p = p
 at_stop P Q false e p = let bad : false ≡ true = e in absurd cc
@@ -684,7 +684,7 @@ still_fewer summary answer e = by_case (is_refused answer)
     by_case true = omega (arith, e)
     by_case false = omega (arith, e)
 
--- each refusal that is counted more is an answer that is counted more
+-- each counted refusal is also a counted answer
 pub still_grown : (old summary counted : Summary) (answer : Answer) → counted ≡ count_of summary answer
     → summary.refused + old.statements ≤ summary.statements + old.refused
     → counted.refused + old.statements ≤ counted.statements + old.refused
@@ -697,13 +697,13 @@ still_grown old summary counted answer c e =
     by_case true = omega (arith, e)
     by_case false = omega (arith, e)
 
--- what is left to do where no statement is left
+-- without a next answer, no statement is left
 pub none_answered : (A : Answering) (o : Option code.Answer) (old new : Stream) (h after : Standing)
     → AnswersNext A o old new h after → ((x : code.Answer) → o ≡ Some x → ⊥) → AnswersNone old new h after
 none_answered A None old new h after t n = t
 none_answered A (Some r) old new h after t n = absurd (n r refl)
 
--- whether the end was told, by what that is
+-- equal end states can be replaced
 pub failed_as : (M : Manner) (s : State) (script : List ℕ) (was is : Bool) (after : Standing) (fails : Bool)
     (from to : Shown) → was ≡ is → SinkFailed M s script was after fails from to
     → SinkFailed M s script is after fails from to

@@ -1,20 +1,20 @@
--- How a script is cut into pieces, and where a piece begins, by their bytes.
+-- How a script is cut into pieces, and where a piece begins, in terms of bytes.
 use Rattle.std.specs.Prelude.{◌≡◌, ◌↔◌, ◌==◌, ◌&&◌, not, ℕ, Bool, true, false, List, [], ◌∷◌, ◌++◌, IsTrue, IsFalse}
 use Rattle.std.specs.Prelude.{MatchBool}
 use Rattle.std.specs.List.{list_all}
 use Rattle.tql_spec.specs.Script.{Piece, Outside, cut, begins_comment, is_blank, without_lead}
 use Rattle.tql_spec.specs.Token.{IsOneLine, IsGap, IsEnd}
 
--- a byte that is not among these bytes
+-- the byte b does not occur in these bytes
 abbrev pub Lacks : ℕ → List ℕ → Type 0
 Lacks b bytes = IsTrue (list_all (λ c. not (c == b)) bytes)
 
--- a byte that is no `;` and no quotation mark
+-- a byte other than `;` and the two quotation marks
 abbrev pub is_plain : ℕ → Bool
 is_plain b = not (b == 59) && (not (b == 39) && not (b == 34))
 
--- the bytes of a piece: each `;` stands in a text in quotes, a name in double quotes or a comment; all of these have an
--- end, but for the last in a piece that is not finished
+-- the bytes of a piece: each `;` is inside a quoted text, a quoted name or a comment. All of these are closed, except
+-- the last one of an unfinished piece.
 pub data IsPiece : Bool → List ℕ → Type 0 where
   nothing : {finished : Bool} → IsPiece finished []
   plain : {finished : Bool} {b : ℕ} {bs : List ℕ} → IsTrue (is_plain b) → IsFalse (begins_comment b bs)
@@ -29,17 +29,17 @@ pub data IsPiece : Bool → List ℕ → Type 0 where
   open_name : {words : List ℕ} → Lacks 34 words → IsPiece false (34 ∷ words)
   open_comment : {words : List ℕ} → IsOneLine words → IsPiece false (45 ∷ 45 ∷ words)
 
--- pieces of which the last alone is not finished
+-- pieces of which only the last is unfinished
 abbrev pub ArePieces : List Piece → Type 0
 ArePieces [] = ⊥
 ArePieces (p ∷ ps) = IsPiece p.finished p.text × MatchBool p.finished (ArePieces ps) (ps ≡ [])
 
--- the `;` behind a piece that is finished
+-- the `;` after a finished piece
 abbrev pub ended_by : Bool → List ℕ
 ended_by true = 59 ∷ []
 ended_by false = []
 
--- the pieces in a row, each with its `;`
+-- the concatenated pieces, each finished one with its `;`
 abbrev pub joined : List Piece → List ℕ
 joined [] = []
 joined (p ∷ ps) = p.text ++ (ended_by p.finished ++ joined ps)
@@ -49,12 +49,12 @@ pub record IsCut (script : List ℕ) (pieces : List Piece) : Type 0 where
   pub are : ArePieces pieces
   pub whole : joined pieces ≡ script
 
--- the law: a script is cut into pieces of it, and into no others
+-- the law: `cut` cuts a script into its pieces, and no other list of pieces is a cut of it
 abbrev pub ScriptsAreCut : Type 0
 ScriptsAreCut = (script : List ℕ)
     → IsCut script (cut Outside script) × ((pieces : List Piece) → IsCut script pieces → pieces ≡ cut Outside script)
 
--- the bytes from the first that is neither a blank nor in a comment
+-- the bytes begin at b, the first byte that is neither blank nor in a comment
 pub record BeginsAt (bytes : List ℕ) (b : ℕ) (rest : List ℕ) : Type 0 where
   pub gap : List ℕ
   pub parts : bytes ≡ gap ++ b ∷ rest
@@ -62,8 +62,8 @@ pub record BeginsAt (bytes : List ℕ) (b : ℕ) (rest : List ℕ) : Type 0 wher
   pub no_blank : IsFalse (is_blank b)
   pub no_comment : IsFalse (begins_comment b rest)
 
--- the law: of a piece nothing is left where it holds blanks and comments alone; else what is left is the piece from its
--- first byte that is neither
+-- the law: nothing is left of a piece with only blanks and comments. Otherwise the rest from its first other byte is
+-- left.
 abbrev pub PiecesBegin : Type 0
 PiecesBegin = (bytes : List ℕ)
     → ((without_lead false bytes ≡ []) ↔ IsEnd bytes)

@@ -1,4 +1,4 @@
--- Statements that end a transaction, by their texts, and what they are answered: in a script too.
+-- Statements that end a transaction, given their texts, and their answers, also within a script.
 use Rattle.std.specs.Prelude.{◌≡◌, ◌⊎◌, ◌≤◌, ℕ, List, [], ◌∷◌, None, IsTrue, length, ⊤}
 use Rattle.tql_spec.specs.Answer.{Answer, Replied, Accepted}
 use Rattle.tql_spec.specs.Machine.{State, Reply, Done, Refused, Committed, RolledBack}
@@ -11,24 +11,24 @@ use Rattle.tql_spec.specs.Syntax.{CommitTree, RollbackTree}
 abbrev pub EndsTransaction : List ℕ → Type 0
 EndsTransaction text = HasSense (finished text) (Says CommitTree) ⊎ HasSense (finished text) (Says RollbackTree)
 
--- it is done, or refused where no transaction is open
+-- it is executed, or refused because no transaction is open
 abbrev pub IsEnded : Reply → Type 0
 IsEnded reply =
     (reply ≡ Done Committed None) ⊎ ((reply ≡ Done RolledBack None) ⊎ (reply ≡ Refused NotInThisTransactionState))
 
--- a COMMIT or a ROLLBACK of a script is answered so where it has at most 65,536 bytes: for such a text a run asks for
--- no memory
+-- a COMMIT or a ROLLBACK of at most 65,536 bytes in a script has one of these replies: a run allocates no memory for it
 abbrev pub EndsSurely : Piece → Reply → Type 0
 EndsSurely p reply = IsTrue p.finished → length p.text ≤ 65_536 → EndsTransaction p.text → IsEnded reply
 
--- each of these pieces, by the reply at its place
+-- the same for each of these pieces and its reply
 abbrev pub AllEndSurely : List Piece → List Reply → Type 0
 AllEndSurely [] [] = ⊤
 AllEndSurely (p ∷ ps) (r ∷ rs) = EndsSurely p r × AllEndSurely ps rs
 AllEndSurely [] (r ∷ rs) = ⊥
 AllEndSurely (p ∷ ps) [] = ⊥
 
--- how the engine answers a piece: by the machine's reply, or that memory is out, but COMMIT and ROLLBACK never so
+-- the answers of the engine to a piece: the reply of the reference model, or out of memory, but never for COMMIT and
+-- ROLLBACK
 abbrev pub Responds : Answering
 Responds old p (Replied reply) new = Answers old p reply new × EndsSurely p reply
 Responds old p Accepted new = ⊥

@@ -1,4 +1,4 @@
--- What a listener is told of a run: which statements were refused, where they stand, and why.
+-- The notifications of a listener in a run: which statements were refused, on which lines, and why.
 use Rattle.std.specs.Prelude.{◌≡◌, ℕ, suc, List, [], ◌∷◌, ◌++◌, map, Bool, Option, Some, None, if◌then◌else◌}
 use Rattle.tql_spec.specs.Refusal.{Refusal}
 use Rattle.tql_spec.specs.Machine.{Done, Table, Refused}
@@ -7,7 +7,7 @@ use Rattle.tql_spec.specs.Lines.{Placed, line_of}
 use Rattle.tql_value.specs.Refusals.{refusal_of}
 use Rattle.tql_run.specs.declared.note.Note.{Note}
 
--- the number of a statement that was refused, its line, and the refusal; both are counted from 1
+-- the number of a refused statement, its line, and the refusal; number and line are counted from 1
 pub record Heard : Type 0 where
   pub statement : ℕ
   pub line : ℕ
@@ -16,40 +16,40 @@ pub record Heard : Type 0 where
 abbrev pub note : ℕ → ℕ → Refusal → Heard
 note statement line refusal = record { statement = statement; line = line; refusal = refusal }
 
--- where a listener tells what it has heard in the end, that is what it had heard, and then these notes
+-- if the listener's final record is known, it is the earlier record followed by these notes
 pub record Hears (old : Option (List Heard)) (notes : List Heard) (new : Option (List Heard)) : Type 0 where
   pub told : (ys : List Heard) → new ≡ Some ys → (xs : List Heard) × (old ≡ Some xs) × (ys ≡ xs ++ notes)
 
--- what is told of the answer to a statement: a refusal
+-- the notes for the answer to a statement: one for a refusal, none otherwise
 abbrev pub note_of : ℕ → ℕ → Answer → List Heard
 note_of statement line (Replied (Refused e)) = note statement line e ∷ []
 note_of statement line (Replied (Done v n)) = []
 note_of statement line (Replied (Table hs rows)) = []
 note_of statement line Accepted = []
 
--- what is told of the answers to the first of these statements, the first of which has this number
+-- the notes for the answers to the first of these statements, numbered from `number`
 abbrev pub notes_from : ℕ → List Placed → List Answer → List Heard
 notes_from number ps [] = []
 notes_from number [] (a ∷ rest) = []
 notes_from number (p ∷ ps) (a ∷ rest) = note_of number (line_of p) a ++ notes_from (suc number) ps rest
 
--- what is told of the answers to the first statements of a script
+-- the notes for the answers to the first statements of a script
 abbrev pub notes_of : List Placed → List Answer → List Heard
 notes_of ps answers = notes_from 1 ps answers
 
--- what a listener shows before and after
+-- the record of a listener before and after
 pub record HearingChange : Type 0 where
   pub heard_old : Option (List Heard)
   pub heard_new : Option (List Heard)
 
--- the same of a listener whose type has this ghost
+-- the same for a listener whose type has this ghost
 abbrev pub hearing_change : {L : Type 0} → (heard : L → Option (List Heard)) → (old new : L) → HearingChange
 hearing_change heard old new = record { heard_old = heard old; heard_new = heard new }
 
--- what a note in memory says
+-- the contents of a note in memory
 abbrev pub heard_of : Note → Heard
 heard_of n = note n.statement n.line (refusal_of n.refusal)
 
--- what kept notes tell, where they are whole
+-- the record in the kept notes, if they are whole
 abbrev pub heard_in : Bool → List Note → Option (List Heard)
 heard_in is_whole kept = if is_whole then Some (map heard_of kept) else None

@@ -1,4 +1,4 @@
--- What a run reads, writes and leaves, and where it stops.
+-- What a run reads and writes, the state that it leaves, and where it stops.
 use Rattle.std.specs.Prelude.{◌≡◌, ◌⊎◌, ◌≤◌, ◌<◌, ◌-◌, ◌^◌, ◌==◌, ◌&&◌, not, ℕ, suc, if◌then◌else◌, Bool, true, false}
 use Rattle.std.specs.Prelude.{List, [], ◌∷◌, ◌++◌, length, filter, count_by, Option, Some, Result, Ok, Err}
 use Rattle.std.specs.Prelude.{IsTrue, IsFalse, MatchBool}
@@ -17,21 +17,21 @@ use Rattle.tql_run.specs.declared.runner.Fault.TheVariants.{Read, Write, Memory}
 
 -- ---- sources
 
--- where the source told what it has left, these bytes were the first of that, and the rest is left
+-- if the bytes left in the source are known, they begin with these bytes, and the rest is left
 pub record Gives (old : Option (List ℕ)) (bytes : List ℕ) (new : Option (List ℕ)) : Type 0 where
   pub told : (xs : List ℕ) → old ≡ Some xs → (rest : List ℕ) × (xs ≡ bytes ++ rest) × (new ≡ Some rest)
 
--- where the source tells what it has left, that is nothing
+-- if the bytes left in the source are known, there are none
 pub record IsAtEnd (left : Option (List ℕ)) : Type 0 where
   pub nothing : (xs : List ℕ) → left ≡ Some xs → xs ≡ []
 
--- whether a pull into a buffer of this length says that the input has ended: it gives none though there is room
+-- whether a pull into a buffer of this length reports the end of the input: it gives no bytes although there is room
 abbrev pub is_end : {E : Type 0} → Result ℕ E → ℕ → Bool
 is_end (Ok n) len = (n == 0) && not (len == 0)
 is_end (Err e) len = false
 
--- what a source shows before and after: what it has left, and how many failures it has counted;
--- and whether its last pull said that the input has ended
+-- the state of a source before and after: the bytes that are left, the number of counted failures, and whether its last
+-- pull reported the end of the input
 pub record SourceChange : Type 0 where
   pub left_old : Option (List ℕ)
   pub left_new : Option (List ℕ)
@@ -39,7 +39,7 @@ pub record SourceChange : Type 0 where
   pub failures_new : ℕ
   pub ended : Bool
 
--- the same of a source whose type has these ghosts
+-- the same for a source whose type has these ghosts
 abbrev pub source_change : {S : Type 0} → (left : S → Option (List ℕ)) → (failures : S → ℕ) → (ended : S → Bool)
     → (old new : S) → SourceChange
 source_change left failures ended old new = record {
@@ -50,28 +50,28 @@ source_change left failures ended old new = record {
   ended = ended new;
 }
 
--- the most pulls of one run
+-- the maximum number of pulls in one run
 abbrev pub most_pulls : ℕ
 most_pulls = 2 ^ 48 - 1
 
--- the most bytes that they give
+-- the maximum number of bytes that the pulls give
 abbrev pub most_bytes : ℕ
 most_bytes = 2 ^ 64 - 1
 
--- the end of the input was met: the last pull said so, nothing is left, and no pull failed
+-- the end of the input was reached: the last pull reported it, nothing is left, and no pull failed
 pub record MeetsEnd (source : SourceChange) : Type 0 where
   pub met : IsTrue source.ended
   pub at_end : IsAtEnd source.left_new
   pub steady : source.failures_new ≡ source.failures_old
 
--- the end of the input was not met: the source failed, or gave 2^48 - 1 bytes or more
+-- the end of the input was not reached: the source failed, or gave 2^48 - 1 bytes or more
 pub record MissesEnd (source : SourceChange) (read : List ℕ) : Type 0 where
   pub unmet : IsFalse source.ended
   pub cause : HasFailed source.failures_old source.failures_new ⊎ (most_pulls ≤ length read)
 
 -- ---- sinks
 
--- what a sink shows before and after: what it holds, and how many failures it has counted; whether it is flushed, and
+-- the state of a sink before and after: its contents, the number of counted failures, whether it is flushed, and
 -- whether a flush may fail
 pub record SinkChange : Type 0 where
   pub held_old : Option (List ℕ)
@@ -81,7 +81,7 @@ pub record SinkChange : Type 0 where
   pub flushed : Bool
   pub flushes_fail : Bool
 
--- the same of a sink whose type has these ghosts
+-- the same for a sink whose type has these ghosts
 abbrev pub sink_change : {S : Type 0} → (written : S → Option (List ℕ)) → (failures : S → ℕ) → (flushed : S → Bool)
     → (flushes_fail : Bool) → (old new : S) → SinkChange
 sink_change written failures flushed flushes_fail old new = record {
@@ -107,29 +107,29 @@ pub record Counts (summary : Summary) (answers : List Answer) : Type 0 where
   pub statements : summary.statements ≡ length answers
   pub refused : summary.refused ≡ count_by is_refused answers
 
--- the counts with one more answer
+-- the counts increased by one answer
 abbrev pub count_of : Summary → Answer → Summary
 count_of summary answer = record {
   statements = suc summary.statements;
   refused = if is_refused answer then suc summary.refused else summary.refused;
 }
 
--- the statements that a run answers: all of a script that was read to its end, else those that are whole in it
+-- the statements that a run answers: all statements of a script that was read to its end, otherwise the whole ones
 abbrev pub answered : Bool → List ℕ → List Piece
 answered true script = statements script
 answered false script = filter (λ (p : Piece). p.finished) (statements script)
 
--- the pieces are the first of these
+-- `done` is a prefix of the pieces
 pub record IsBeginning (done pieces : List Piece) : Type 0 where
   pub others : List Piece
   pub parts : pieces ≡ done ++ others
 
--- ---- what a run did
+-- ---- outcomes of a run
 
--- In each case the listener is told of the statements that are refused among those answered, of no others, and of each
--- by its number and its line.
+-- In each case the listener is notified of exactly those answered statements that were refused, each with its number
+-- and its line.
 
--- the whole script was read and each of its statements answered, no device failed, and the sink is flushed
+-- the whole script was read, each of its statements was answered, no device failed, and the sink is flushed
 pub record RunsWhole (A : Answering) (s : State) (after : Standing) (source : SourceChange) (sink : SinkChange)
     (hearing : HearingChange) (summary : Summary) : Type 0 where
   pub script : List ℕ
@@ -145,7 +145,7 @@ pub record RunsWhole (A : Answering) (s : State) (after : Standing) (source : So
   pub writes : sink.failures_new ≡ sink.failures_old
   pub flushed : IsTrue sink.flushed
 
--- the end of the input was not met: the statements that are whole in what was read are answered, and the sink is
+-- the end of the input was not reached: the whole statements in the bytes read so far are answered, and the sink is
 -- flushed
 pub record StopsReading (A : Answering) (s : State) (after : Standing) (source : SourceChange) (sink : SinkChange)
     (hearing : HearingChange) : Type 0 where
@@ -161,7 +161,7 @@ pub record StopsReading (A : Answering) (s : State) (after : Standing) (source :
   pub writes : sink.failures_new ≡ sink.failures_old
   pub flushed : IsTrue sink.flushed
 
--- what was written of the answers: all but the last of them whole, and a beginning of the last, which is not all of it
+-- the text written for the answers: all but the last are complete, and the last is cut to a proper prefix
 pub record CutsLast (answers : List Answer) (text : List ℕ) : Type 0 where
   pub earlier : List Answer
   pub last : Answer
@@ -172,9 +172,10 @@ pub record CutsLast (answers : List Answer) (text : List ℕ) : Type 0 where
   pub lacks : 0 < length back
   pub is : text ≡ answers_text earlier ++ front
 
--- The sink failed, at an answer: the statement of that answer is the last that ran; or at a flush, where a flush of
--- this sink may fail: all ran that are whole in what was read. The source had not failed. Those that ran are the first
--- statements of the script, whatever may still follow what was read; where the end was met, nothing does.
+-- The sink failed. If it failed at an answer, the statement of that answer is the last that ran. If it failed at a
+-- flush, which must be allowed to fail, all whole statements in the bytes read have run. The source had not failed. The
+-- statements that ran are the first ones of the script, whatever may still follow the bytes read; after the end of the
+-- input, nothing follows.
 pub record StopsWriting (A : Answering) (s : State) (after : Standing) (source : SourceChange) (sink : SinkChange)
     (hearing : HearingChange) : Type 0 where
   pub script : List ℕ
@@ -195,7 +196,7 @@ pub record StopsWriting (A : Answering) (s : State) (after : Standing) (source :
   pub written : Appends sink.held_old text sink.held_new
   pub cause : HasFailed sink.failures_old sink.failures_new
 
--- no memory for what a run takes at its start: nothing was read, nothing ran and nothing was written
+-- the memory for the start of a run was refused: nothing was read, run or written
 pub record NothingRun (A : Answering) (s : State) (after : Standing) (source : SourceChange) (sink : SinkChange)
     (hearing : HearingChange) : Type 0 where
   pub left : source.left_new ≡ source.left_old
@@ -205,8 +206,8 @@ pub record NothingRun (A : Answering) (s : State) (after : Standing) (source : S
   pub written : Appends sink.held_old [] sink.held_new
   pub writes : sink.failures_new ≡ sink.failures_old
 
--- how a run went by its result: what its answers are, the state that the responder stood for, and what it
--- stands for after it
+-- the outcome of a run by its result, given the relation of its answers, the state that the responder represented, and
+-- the states that it represents afterwards
 abbrev pub Runs : Answering → State → Standing → SourceChange → SinkChange → HearingChange → Result Summary Fault
     → Type 0
 Runs A s after source sink hearing (Ok summary) = RunsWhole A s after source sink hearing summary

@@ -1,4 +1,4 @@
--- What a run leaves that writes its answers in a form, and that the first refusal may stop.
+-- The outcome of a run that writes its answers in a form, and that the first refusal may stop.
 use Rattle.std.specs.Prelude.{◌≡◌, ◌⊎◌, ◌≤◌, ◌<◌, ◌+◌, ◌==◌, ◌&&◌, not, ℕ, Bool, true, false, List, [], ◌∷◌, ◌++◌}
 use Rattle.std.specs.Prelude.{length, count_by, Result, Ok, Err, IsTrue, MatchBool}
 use Rattle.tql_spec.specs.Machine.{State, Refused}
@@ -17,9 +17,9 @@ use Rattle.tql_run.specs.declared.runner.Summary.{Summary}
 use Rattle.tql_run.specs.declared.runner.Fault.{Fault}
 use Rattle.tql_run.specs.declared.runner.Fault.TheVariants.{Read, Write, Memory}
 
--- ---- how a run goes
+-- ---- how a run proceeds
 
--- what its answers are, how they are written, and whether it stops at the first refusal
+-- the relation of its answers, the style of their texts, and whether the run stops at the first refusal
 pub record Manner : Type 1 where
   pub answering : Answering
   pub style : Style
@@ -28,7 +28,7 @@ pub record Manner : Type 1 where
 abbrev pub manner : Answering → Style → Bool → Manner
 manner answering style bail = record { answering = answering; style = style; bail = bail }
 
--- the default: each answer has its one text, and a refusal stops nothing
+-- the default: each answer has exactly one text, and a refusal does not stop the run
 abbrev pub plainly : Answering → Manner
 plainly answering = manner answering plain_style false
 
@@ -36,7 +36,7 @@ plainly answering = manner answering plain_style false
 abbrev pub NoneRefused : List Answer → Type 0
 NoneRefused answers = count_by is_refused answers ≡ 0
 
--- where the first refusal stops a run, none of these answers is one
+-- if the first refusal stops the run, none of these answers is one
 abbrev pub GoesOn : Bool → List Answer → Type 0
 GoesOn bail answers = IsTrue bail → NoneRefused answers
 
@@ -47,11 +47,11 @@ pub record EndsRefused (answers : List Answer) : Type 0 where
   pub all : answers ≡ earlier ++ Replied (Refused refusal) ∷ []
   pub others : NoneRefused earlier
 
--- by its counts, a run was stopped by a refusal
+-- whether the run was stopped by a refusal, judged by its counts
 abbrev pub stops : Bool → Summary → Bool
 stops bail summary = bail && not (summary.refused == 0)
 
--- the last part of the script came by one pull at most, and what was read before it has fewer whole statements
+-- the last part of the script came from at most one pull, and the bytes read before it have fewer whole statements
 pub record PullsLast (count : ℕ) (script : List ℕ) : Type 0 where
   pub before : List ℕ
   pub last : List ℕ
@@ -59,12 +59,12 @@ pub record PullsLast (count : ℕ) (script : List ℕ) : Type 0 where
   pub small : length last ≤ 65_536
   pub fewer : length (answered false before) < count
 
--- ---- what a run did
+-- ---- outcomes of a run
 
--- In each case the listener is told of the statements that are refused among those answered, of no others, and of each
--- by its number and its line. Where no device failed at an answer, the form has written these answers (`wrote`).
+-- In each case the listener is notified of exactly those answered statements that were refused, each with its number
+-- and its line. If no device failed at an answer, the form has written these answers (`wrote`).
 
--- the whole script was read and each of its statements answered, no device failed, and the sink is flushed
+-- the whole script was read, each of its statements was answered, no device failed, and the sink is flushed
 pub record RunsWholeIn (M : Manner) (s : State) (after : Standing) (form : Written) (source : SourceChange)
     (sink : SinkChange) (hearing : HearingChange) (summary : Summary) : Type 0 where
   pub script : List ℕ
@@ -84,10 +84,10 @@ pub record RunsWholeIn (M : Manner) (s : State) (after : Standing) (form : Writt
   pub writes : sink.failures_new ≡ sink.failures_old
   pub flushed : IsTrue sink.flushed
 
--- The run was stopped by a refusal, the first: that of the statement that ran last. The first statements of the script
--- ran up to that one, whatever may still follow what was read; where the end was met, nothing does. No device failed,
--- and the sink is flushed. Nothing was pulled after the refusal: what was pulled before the last pull, which gave at
--- most 65,536 bytes, has fewer whole statements.
+-- The run was stopped by its first refusal, that of the last statement that ran. The statements of the script ran up to
+-- that one, whatever may still follow the bytes read; after the end of the input, nothing follows. No device failed,
+-- and the sink is flushed. Nothing was pulled after the refusal: the bytes before the last pull, which gave at most
+-- 65,536 bytes, have fewer whole statements.
 pub record RunsToRefusal (M : Manner) (s : State) (after : Standing) (form : Written) (source : SourceChange)
     (sink : SinkChange) (hearing : HearingChange) (summary : Summary) : Type 0 where
   pub script : List ℕ
@@ -113,7 +113,7 @@ pub record RunsToRefusal (M : Manner) (s : State) (after : Standing) (form : Wri
   pub flushed : IsTrue sink.flushed
   pub pulled : PullsLast (length answers) script
 
--- the end of the input was not met: the statements that are whole in what was read are answered, and the sink is
+-- the end of the input was not reached: the whole statements in the bytes read so far are answered, and the sink is
 -- flushed
 pub record StopsReadingIn (M : Manner) (s : State) (after : Standing) (form : Written) (source : SourceChange)
     (sink : SinkChange) (hearing : HearingChange) : Type 0 where
@@ -133,8 +133,8 @@ pub record StopsReadingIn (M : Manner) (s : State) (after : Standing) (form : Wr
   pub writes : sink.failures_new ≡ sink.failures_old
   pub flushed : IsTrue sink.flushed
 
--- of the answers to the first of these statements there was written: texts of all but the last whole, and a beginning
--- of a text of the last, which is not all of it; but for the last, none is a refusal that stops the run
+-- the text written for the answers to the first of these statements: all but the last are complete, and the last is cut
+-- to a proper prefix. No earlier answer is a refusal that stops the run.
 pub record CutsLastIn (M : Manner) (places : List Placed) (answers : List Answer) (text : List ℕ) : Type 0 where
   pub earlier : List Answer
   pub last : Answer
@@ -148,7 +148,7 @@ pub record CutsLastIn (M : Manner) (places : List Placed) (answers : List Answer
   pub lacks : 0 < length back
   pub is : text ≡ before ++ front
 
--- the last answer is one to be reported; but for it, none is a refusal that stops the run
+-- the last answer is to be reported; no earlier answer is a refusal that stops the run
 pub record EndsReported (M : Manner) (answers : List Answer) : Type 0 where
   pub earlier : List Answer
   pub last : Answer
@@ -156,18 +156,19 @@ pub record EndsReported (M : Manner) (answers : List Answer) : Type 0 where
   pub goes_on : GoesOn M.bail earlier
   pub is_reported : IsTrue (M.style.reported last)
 
--- all answers were written whole, and then a flush failed, which may fail: where none is left to be answered, where
--- the last is the refusal that stops the run, or where it is to be reported
+-- all answers were written completely, and then a flush failed, which must be allowed. Either no statement is left to
+-- be answered, or the last answer is the refusal that stops the run, or it is to be reported.
 pub record FailsFlush (M : Manner) (flushes_fail : Bool) (rest : List Piece) (places : List Placed)
     (answers : List Answer) (text : List ℕ) : Type 0 where
   pub allowed : IsTrue flushes_fail
   pub texts : AreTexts M.style.texts places answers text
   pub all : ((rest ≡ []) × GoesOn M.bail answers) ⊎ ((IsTrue M.bail × EndsRefused answers) ⊎ EndsReported M answers)
 
--- The sink failed, at an answer: the statement of that answer is the last that ran; or at a flush, where a flush of
--- this sink may fail: all ran that are whole in what was read, or all up to the refusal that stops the run, or up to an
--- answer to be reported. The source had not failed. Those that ran are the first statements of the script, whatever
--- may still follow what was read; where the end was met, nothing does.
+-- The sink failed. If it failed at an answer, the statement of that answer is the last that ran. If it failed at a
+-- flush, which must be allowed to fail, one of three groups has run: all whole statements in the bytes read, those up
+-- to the refusal that stops the run, or those up to an answer to be reported. The source had not failed. The statements
+-- that ran are the first ones of the script, whatever may still follow the bytes read; after the end of the input,
+-- nothing follows.
 pub record StopsWritingIn (M : Manner) (s : State) (after : Standing) (source : SourceChange) (sink : SinkChange)
     (hearing : HearingChange) : Type 0 where
   pub script : List ℕ
@@ -189,8 +190,8 @@ pub record StopsWritingIn (M : Manner) (s : State) (after : Standing) (source : 
   pub written : Appends sink.held_old text sink.held_new
   pub cause : HasFailed sink.failures_old sink.failures_new
 
--- how a run in this manner went by its result: the state that the responder stood for, what it stands for after it, and
--- what the form has written then
+-- the outcome of a run in this manner by its result: the state that the responder represented, the states that it
+-- represents afterwards, and the answers that the form has then written
 abbrev pub RunsIn : Manner → State → Standing → Written → SourceChange → SinkChange → HearingChange
     → Result Summary Fault → Type 0
 RunsIn M s after form source sink hearing (Ok summary) = MatchBool (stops M.bail summary)

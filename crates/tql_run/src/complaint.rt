@@ -3,7 +3,7 @@ use std::fmt;
 use tql_detail::detail::Detail;
 use tql_value::refusal::Refusal;
 
-/// A refused statement, to be written as a line: its number, the line and, where it is known, the column of the fault,
+/// A refused statement, to be written as one line: the statement number, the line, the column of the fault if known,
 /// the refusal, and the words and the hint of its detail.
 #[derive(Drop)]
 pub struct Complaint<'a> {

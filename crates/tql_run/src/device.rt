@@ -1,4 +1,4 @@
-//! What gives the bytes of a script.
+//! The source of the bytes of a script.
 ghost use Rattle.std.specs.Prelude.{◌≡◌, ◌≤◌, ◌<◌, ℕ, Bool, List, [], Option, length, take};
 ghost use Rattle.std.specs.Prelude.{IfOk, OnErr, IsTrue, is_err};
 ghost use Rattle.tql_result.specs.Devices.{Counts};
@@ -7,27 +7,27 @@ ghost use Rattle.tql_run.specs.Runs.{Gives, IsAtEnd, is_end};
 use tql_result::device::DeviceFault;
 use tql_result::sink::Sink;
 
-/// The state of a source. It counts its failures, so that a run can say that no failure came from elsewhere.
+/// The state of a source. It counts its failures, which shows that no failure of a run came from elsewhere.
 pub trait Input {
-    /// The bytes that it has left, where they are known; of a source without them nothing is claimed.
+    /// The bytes that are left, if they are known. If they are not known, nothing is claimed about them.
     ghost left: { Self → Option (List ℕ) };
 
-    /// How many failures it has counted.
+    /// The number of failures counted so far.
     ghost failures: { Self → ℕ };
 
-    /// Whether its last pull said that the input has ended.
+    /// Whether the last pull reported the end of the input.
     ghost ended: { Self → Bool };
 
-    /// How many pulls have failed; the count stays at 2^64 - 1.
+    /// Returns the number of pulls that have failed. The count saturates at 2^64 - 1.
     fn faults(&self) -> u64
         ensures { result ≡ failures self.now };
 }
 
-/// What gives the bytes of a script whose answers are pushed into a sink of type `O`. Whoever is at the other ends of
-/// both, as a person at a terminal, may wait for an answer before going on. So a pull requires a flushed sink.
+/// A source of script bytes for a run whose answers are pushed into a sink of type `O`. A user at the other end, for
+/// example at a terminal, may wait for an answer before sending more. For that reason, a pull requires a flushed sink.
 pub trait Source<O: Sink>: Input {
-    /// Puts the next bytes at the front of the buffer, and returns their number. Zero for a buffer that is not empty
-    /// says that the input has ended. An error gives nothing. The sink is only read.
+    /// Copies the next bytes to the front of the buffer and returns their number. Zero for a non-empty buffer means the
+    /// end of the input. On an error, no bytes are consumed. The sink is only read.
     fn pull(&mut self, sink: &O, buffer: &mut [u8]) -> Result<usize, DeviceFault>
         requires flushed { IsTrue (O.flushed sink.now) }
         ensures within { IfOk result (λ n. n ≤ length buffer.old) }

@@ -1,4 +1,4 @@
-//! How the answers of a run are written.
+//! The output formats of a run.
 ghost use Rattle.std.specs.Prelude.{Bool, false, ⊤, IsTrue};
 ghost use Rattle.tql_spec.specs.Answer as run;
 ghost use Rattle.tql_result.specs.Replies.{answer_of, IsPrintableAnswer};
@@ -9,31 +9,31 @@ use tql_result::answer::{Answer, write_answer};
 use tql_result::device::DeviceFault;
 use tql_result::sink::Sink;
 
-/// How the answers of a run are written.
+/// An output format for the answers of a run.
 pub trait Form {
-    /// The answers that it may have written so far, oldest first: what its next text may depend on.
+    /// The possible lists of answers written so far, oldest first. The next text may depend on them.
     ghost wrote: { Self → Written };
 
-    /// What may be the text of an answer.
+    /// The possible texts of an answer.
     ghost texts: { Texts };
 
-    /// The answers that a listener may be expected to report too.
+    /// The answers that a listener may be expected to report as well.
     ghost reported: { run.Answer → Bool };
 
-    /// Whether details are to be found for it.
+    /// Whether the form uses details.
     fn wants_details(&self) -> bool;
 
-    /// Whether a listener is expected to report this answer, in place of its text or besides it. The run then flushes
-    /// the sink before a listener that waits for that.
+    /// Whether a listener is expected to report this answer, instead of its text or in addition to it. If that listener
+    /// waits for a flush, the run first flushes the sink.
     fn is_reported(&self, answer: &Answer) -> bool
         ensures { IsTrue result → IsTrue (reported (answer_of answer.now)) };
 
-    /// Pushes a text of the answer to the statement of this number, on this line; both are counted from 1. The detail
-    /// of a refusal is passed where it is wanted and known.
+    /// Pushes a text of the answer to the statement with this number, on this line. Both are counted from 1. The detail
+    /// of a refusal is passed if it is wanted and known.
     ///
     /// # Errors
     ///
-    /// Fails where the sink fails; a beginning of the text was pushed then.
+    /// Fails if the sink fails. A prefix of the text has then been pushed.
     fn write<O: Sink>(
         &mut self,
         sink: &mut O,
@@ -47,7 +47,7 @@ pub trait Form {
             (O.written sink.old) (O.written sink.new) (O.failures sink.old) (O.failures sink.new) };
 }
 
-/// The plain form: each answer as `write_answer` writes it, whatever came before it.
+/// The plain form: writes each answer as `write_answer` does, whatever answers came before it.
 #[derive(Clone, Copy, Debug)]
 pub struct PlainForm;
 

@@ -1,4 +1,4 @@
-//! Runs of scripts: statements in, answers out, whatever answers them.
+//! Runs a script: reads statements, passes them to a responder, and writes the answers.
 #![tactic(auto)]
 
 pub mod complaint;

@@ -1,4 +1,4 @@
-//! What hears of the answers of a run.
+//! Listeners, which are notified of the answers of a run.
 ghost use Rattle.std.specs.Prelude.{Option, List, [], ◌∷◌};
 ghost use Rattle.tql_value.specs.Refusals.{refusal_of};
 ghost use Rattle.tql_run.specs.Hearing.{Heard, Hears, note};
@@ -8,19 +8,19 @@ use tql_detail::detail::Detail;
 use tql_result::answer::Answer;
 use tql_value::refusal::Refusal;
 
-/// What hears of the answers of a run, each after its push.
+/// A listener is notified of each answer of a run, after the answer was pushed.
 pub trait Listener {
-    /// The refusals that it has heard of; a listener without a record of them claims nothing.
+    /// The refusals that it was notified of. A listener without a record of them claims nothing.
     ghost heard: { Self → Option (List Heard) };
 
-    /// Whether it uses details; where nobody does, none is made.
+    /// Whether it uses details. If neither the listener nor the form does, none is built.
     fn wants_details(&self) -> bool;
 
-    /// Whether the sink is to be flushed before it hears of an answer that it is to report by the form.
+    /// Whether the sink must be flushed before the listener is notified of an answer that it reports for the form.
     fn waits(&self) -> bool;
 
-    /// Hears that a statement was refused: its number and its line, both counted from 1, the refusal, and the detail
-    /// where it is known and wanted. `pushed` says whether the sink took the answer. No clause speaks of the detail.
+    /// Reports a refused statement to the listener: its number and line, both counted from 1, the refusal, and the
+    /// detail if it is known and wanted. `pushed` says whether the sink took the answer. No contract covers the detail.
     fn refused(
         &mut self,
         statement: u64,
@@ -31,7 +31,7 @@ pub trait Listener {
     )
         ensures { Hears (heard self.old) (note statement line (refusal_of refusal) ∷ []) (heard self.new) };
 
-    /// Hears of an answer that is no refusal. `pushed` says whether the sink took it.
+    /// Reports an answer that is not a refusal to the listener. `pushed` says whether the sink took it.
     fn answered(&mut self, answer: &Answer, pushed: &Pushed)
         ensures { Hears (heard self.old) [] (heard self.new) };
 }

@@ -11,20 +11,20 @@ use tql_memory::Memory;
 use tql_result::answer::Answer;
 use tql_value::refusal::Refusal;
 
-/// A listener that keeps a note of each refusal. Where memory for one is refused, the note is lost, the allocator's
-/// error is kept, and the notes are not whole from then on.
+/// A listener that keeps a note of each refusal. If the memory for a note is refused, the note is lost and the
+/// allocator's error is kept. From then on the notes are incomplete.
 #[derive(Drop)]
 pub struct Notes {
     /// The notes, in the order of the statements.
     pub kept: Vec<Note, Memory>,
-    /// The allocator's error where a note was lost.
+    /// The allocator's error, if a note was lost.
     pub lost: Option<AllocError>,
-    /// The details of the refusals, as far as there was memory for them, in the order of the statements.
+    /// The details of the refusals that fitted in memory, in the order of the statements.
     pub told: Vec<Told, Memory>,
 }
 
 impl Notes {
-    /// Returns a listener without notes, which keeps the memory that it grows in.
+    /// Returns a listener without notes. It allocates in `memory`.
     pub fn new(memory: Memory) -> Notes
         ensures { ⟦<Notes as Listener>⟧.heard result ≡ Some List.[] }
     {
@@ -42,7 +42,7 @@ impl Notes {
         self.lost.is_none()
     }
 
-    /// Keeps a note; without memory for it the notes stay as they are.
+    /// Adds a note. If its memory is refused, the notes stay as they were.
     pub fn keep(&mut self, note: Note) -> Result<(), AllocError>
         ensures { Keeps note result self.old self.new }
     {
@@ -50,7 +50,7 @@ impl Notes {
         Ok(())
     }
 
-    /// Keeps the detail of a refusal; without memory for it the detail is lost, and nothing else.
+    /// Adds the detail of a refusal. If its memory is refused, only the detail is lost.
     fn keep_detail(&mut self, statement: u64, detail: &Detail) -> Result<(), AllocError>
         ensures kept { self.new.kept.items ≡ self.old.kept.items }
         ensures lost { self.new.lost ≡ self.old.lost }

@@ -14,7 +14,7 @@ use tql_result::answer::Answer;
 use tql_result::reply::Reply;
 use tql_value::refusal::Refusal;
 
-/// Returns the fault of a text that is not too long and that no `;` ends.
+/// Returns the fault of a text that is not too long and has no closing `;`.
 fn cut_fault(text: &[u8]) -> Refusal
     ensures { IsCutFault text.now (refusal_of result) }
 {
@@ -24,7 +24,7 @@ fn cut_fault(text: &[u8]) -> Refusal
     }
 }
 
-/// Answers the next piece of a script: a finished text as the responder does; any other is refused.
+/// Answers the next piece of a script: passes a finished text to the responder, and refuses any other piece.
 pub fn answer_piece<R: Responder>(responder: &mut R, piece: Piece<'_>) -> Answer
     ensures answered { (s : State) (p : script.Piece) → R.stands responder.old s → StandsFor piece.entry p
         → Answered R.answering s p (answer_of result) (R.stands responder.new) }
@@ -38,8 +38,8 @@ pub fn answer_piece<R: Responder>(responder: &mut R, piece: Piece<'_>) -> Answer
     }
 }
 
-/// Returns the detail of the answer to a piece, where it is wanted and the answer is a refusal of a text. The
-/// allocations that this makes are not counted, so that later statements find the same budget with it and without it.
+/// Returns the detail of the answer to a piece, if it is wanted and the answer refuses a text. The allocations made
+/// here are not counted, so later statements have the same memory budget with or without details.
 pub fn detail_of<R: Responder>(
     responder: &R,
     piece: Piece<'_>,

@@ -1,4 +1,4 @@
-//! The push of an answer, before the listener hears of it.
+//! The push of an answer, which precedes the notification of the listener.
 ghost use Rattle.std.specs.Prelude.{◌≡◌, List, [], IsTrue, OnErr, is_err};
 ghost use Rattle.tql_spec.specs.Answer as run;
 ghost use Rattle.tql_result.specs.Devices.{Appends, Counts};
@@ -11,7 +11,7 @@ use tql_result::answer::Answer;
 use tql_result::device::DeviceFault;
 use tql_result::sink::Sink;
 
-/// Flushes the sink after an answer that a listener is to report, where `waits` says so.
+/// Flushes the sink after an answer that a listener is to report, if `waits` is set.
 fn flush_reported<F: Form, O: Sink>(
     form: &F,
     sink: &mut O,
@@ -29,16 +29,16 @@ fn flush_reported<F: Form, O: Sink>(
     }
 }
 
-/// The outcome of the push of an answer. Only `Pushed::push` makes one, after the push, so whoever is given one is
-/// called after it.
+/// The outcome of pushing an answer. Only `Pushed::push` creates one, after the push. A function that takes a `Pushed`
+/// can therefore only be called after the push.
 #[derive(Debug, Drop)]
 pub struct Pushed {
     outcome: Result<(), DeviceFault>,
 }
 
 impl Pushed {
-    /// Pushes an answer in a form, as its `write` does. Where `waits` says so, the sink is flushed after an answer that
-    /// a listener is to report.
+    /// Pushes an answer with the form's `write`. If `waits` is set, the sink is flushed after an answer that a listener
+    /// is to report.
     pub fn push<F: Form, O: Sink>(
         form: &mut F,
         sink: &mut O,
@@ -61,7 +61,7 @@ impl Pushed {
         Pushed { outcome }
     }
 
-    /// Whether the sink took the whole answer.
+    /// Returns `Ok` if the sink took the whole answer, and its error otherwise.
     pub fn outcome(&self) -> Result<(), DeviceFault>
         ensures { result ≡ self.now.outcome }
     {

@@ -1,4 +1,4 @@
-//! What answers the statements of a script.
+//! Responders, which answer the statements of a script.
 ghost use Rattle.tql_spec.specs.Machine.{State};
 ghost use Rattle.tql_spec.specs.Run.{Answering, finished};
 ghost use Rattle.tql_result.specs.Replies.{answer_of, IsPrintableAnswer};
@@ -10,28 +10,28 @@ use tql_memory::Memory;
 use tql_result::answer::Answer;
 use tql_value::refusal::Refusal;
 
-/// What answers the statements of a script in order. It may represent states of the reference model. All its answers
-/// are of one kind: the replies of the model, or whether each statement is accepted.
+/// Answers the statements of a script in order. A responder may represent states of the reference model. Its answers
+/// are all of one kind: the replies of the model, or whether each statement is accepted.
 pub trait Responder {
     /// The states of the reference model that it represents.
     ghost stands: { Self → Standing };
 
-    /// What its answers are.
+    /// The relation between statements and its answers.
     ghost answering: { Answering };
 
-    /// The memory that a run over it grows in.
+    /// Returns the memory in which a run with this responder allocates.
     fn memory(&self) -> Memory;
 
-    /// Answers one finished statement by its text, without its `;`. Any bytes are taken.
+    /// Answers one finished statement, given its text without the closing `;`. Accepts any bytes.
     fn answer(&mut self, text: &[u8]) -> Answer
         ensures answered { (s : State) → stands self.old s
             → Answered answering s (finished text.now) (answer_of result) (stands self.new) }
         ensures printable { IsPrintableAnswer (answer_of result) };
 
-    /// Returns the detail of a refusal: that of the statement of this text, which was answered last. None where nothing
-    /// more is known, or its memory is refused.
+    /// Returns the detail of the refusal of the statement with this text, which was the last one answered. Returns None
+    /// if nothing more is known or the memory for the detail is refused.
     fn detail(&self, text: &[u8], refusal: Refusal) -> Option<Detail>;
 
-    /// A statement that is too long, or that no `;` ends, is refused.
+    /// A statement that is too long or has no closing `;` is refused.
     ghost refuses: { RefusesFaults answering };
 }

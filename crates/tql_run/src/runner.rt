@@ -1,4 +1,4 @@
-//! A whole run of a script.
+//! The run of a whole script.
 ghost use Rattle.std.specs.Prelude.{◌≡◌, ◌≤◌, ◌<◌, ◌+◌, List, [], length, IsTrue, IsFalse, IfOk, OnOk, ◌&&◌, not};
 ghost use Rattle.tql_spec.specs.Answer as run;
 ghost use Rattle.tql_spec.specs.Machine.{State};
@@ -26,10 +26,10 @@ use tql_result::device::DeviceFault;
 use tql_result::reply::Reply;
 use tql_result::sink::Sink;
 
-/// The most pulls of one run.
+/// The maximum number of pulls in one run.
 pub const MOST_PULLS: u64 = 281_474_976_710_655;
 
-/// How many statements a run answered, and how many of these it refused.
+/// The number of statements that a run answered, and the number of them that were refused.
 #[derive(Clone, Copy, PartialEq, Eq, Debug)]
 pub struct Summary {
     pub statements: u64,
@@ -39,11 +39,11 @@ pub struct Summary {
 /// Why a run stopped.
 #[derive(Clone, Copy, PartialEq, Eq, Debug)]
 pub enum Fault {
-    /// The end of the input was not met: the source failed, or gave 2^48 - 1 bytes or more.
+    /// The run did not reach the end of the input: the source failed, or gave 2^48 - 1 bytes or more.
     Read,
     /// The sink failed.
     Write,
-    /// What a run takes at its start found no memory.
+    /// The allocations at the start of the run were refused.
     Memory,
 }
 
@@ -58,7 +58,7 @@ impl From<AllocError> for Fault {
     }
 }
 
-/// Returns the counts with one more answer.
+/// Returns the counts increased by one answer.
 fn counted(summary: Summary, answer: &Answer) -> Summary
     requires room { summary.statements < most_bytes }
     requires fewer { summary.refused ≤ summary.statements }
@@ -77,15 +77,15 @@ fn counted(summary: Summary, answer: &Answer) -> Summary
     }
 }
 
-/// Whether a run is stopped by a refusal: the first is to stop it, and one was counted.
+/// Whether the run stops because of a refusal: `bail` is set and a refusal was counted.
 fn is_stopped(bail: bool, summary: &Summary) -> bool
     ensures { result ≡ stops bail summary.now }
 {
     bail && summary.refused != 0
 }
 
-/// Takes the next statement and answers it. The detail of the answer is kept with its place in the statement. Returns
-/// None where the bytes that were fed hold no whole statement.
+/// Takes the next statement and answers it. Sets `detail` to the detail of the answer, with its place relative to the
+/// statement. Returns None if the bytes fed so far contain no further whole statement.
 fn answer_whole<R: Responder>(
     responder: &mut R,
     splitter: &mut Splitter,
@@ -105,8 +105,8 @@ fn answer_whole<R: Responder>(
     }
 }
 
-/// Takes the next statement and answers it. The detail of the answer is kept where it is wanted, with its place in the
-/// script; the one before is freed first. Returns None where the bytes that were fed hold no whole statement.
+/// Takes the next statement and answers it. Frees the previous detail first, then sets `detail`, if it is wanted, with
+/// its place in the script. Returns None if the bytes fed so far contain no further whole statement.
 pub fn answer_next<R: Responder>(
     responder: &mut R,
     splitter: &mut Splitter,
@@ -124,7 +124,7 @@ pub fn answer_next<R: Responder>(
     answer
 }
 
-/// Reports the answer to a statement to the listener, after its push.
+/// Reports the answer to the listener, after the answer was pushed.
 fn report<L: Listener>(
     listener: &mut L,
     statement: u64,
@@ -142,8 +142,8 @@ fn report<L: Listener>(
     }
 }
 
-/// Answers the statements that are whole, writes their answers in the form, and reports each to the listener; where a
-/// refusal is to stop the run, up to the first.
+/// Answers the statements that are whole, writes their answers in the form, and reports each one to the listener. If
+/// `bail` is set, it stops after the first refusal.
 fn answer_ready<R: Responder, O: Sink, L: Listener, F: Form>(
     responder: &mut R,
     splitter: &mut Splitter,
@@ -184,7 +184,7 @@ fn answer_ready<R: Responder, O: Sink, L: Listener, F: Form>(
     Ok(())
 }
 
-/// Answers the statements that are whole as `answer_ready` does, and flushes the sink.
+/// Answers the whole statements as `answer_ready` does, then flushes the sink.
 fn answer_flushed<R: Responder, O: Sink, L: Listener, F: Form>(
     responder: &mut R,
     splitter: &mut Splitter,
@@ -216,8 +216,8 @@ fn answer_flushed<R: Responder, O: Sink, L: Listener, F: Form>(
     }
 }
 
-/// Pulls the next bytes. A source may wait for them, so all statements that are whole have been answered before, and
-/// the sink has passed their answers on. No other function of a run pulls.
+/// Pulls the next bytes. A source may block, so all whole statements must have been answered and the sink flushed. No
+/// other function of a run pulls.
 fn pull_flushed<I: Source<O>, O: Sink>(
     source: &mut I,
     splitter: &Splitter,
@@ -233,7 +233,7 @@ fn pull_flushed<I: Source<O>, O: Sink>(
     source.pull(sink, buffer)
 }
 
-/// Answers what is left of a script that was read to its end.
+/// Answers the rest of a script that was read to its end.
 fn answer_rest<R: Responder, O: Sink, L: Listener, F: Form>(
     responder: &mut R,
     splitter: &mut Splitter,
@@ -264,7 +264,7 @@ fn answer_rest<R: Responder, O: Sink, L: Listener, F: Form>(
     }
 }
 
-/// Reads a script from the source, and answers each of its statements as `run_in` does.
+/// Reads a script from the source and answers its statements as `run_in` does.
 fn converse<R: Responder, I: Source<O>, O: Sink, L: Listener, F: Form>(
     responder: &mut R,
     source: &mut I,
@@ -314,18 +314,18 @@ fn converse<R: Responder, I: Source<O>, O: Sink, L: Listener, F: Form>(
 }
 
 /// Answers the statements of a script in order, writes each answer in a form to the sink, and reports it to the
-/// listener after its push. Each statement is answered as soon as it is whole: the source is pulled only where no whole
-/// statement is left, and where the sink has passed on all answers before. The form may have written other answers
-/// before, as those of another script: then its texts are those of the answers that follow these.
+/// listener after the push. Each statement is answered as soon as it is whole: the source is pulled only when no whole
+/// statement is left and the sink is flushed. The form may already have written answers, for example those of an
+/// earlier script. Its texts then continue from those answers.
 ///
-/// Where `bail` says so, the first refusal stops the run, which ends well, with the refusal written and counted: no
-/// statement after it is answered, and nothing is pulled after it. Otherwise a refused statement does not stop the run.
+/// If `bail` is set, the first refusal stops the run successfully, with the refusal written and counted. No later
+/// statement is answered, and nothing more is pulled. Otherwise a refused statement does not stop the run.
 ///
 /// # Errors
 ///
-/// `Read` where the source fails: the statements that came whole before that are answered and stand. `Write` where the
-/// sink fails: no statement runs after the one whose answer it did not take. `Memory` where there is no room to read
-/// into: nothing ran.
+/// `Read` if the source fails; statements that were whole before the failure have been answered and keep their effect.
+/// `Write` if the sink fails; no statement runs after the one whose answer the sink did not take. `Memory` if the read
+/// buffers cannot be allocated; no statement has run.
 pub fn run_in<R: Responder, I: Source<O>, O: Sink, L: Listener, F: Form>(
     responder: &mut R,
     source: &mut I,
@@ -345,7 +345,7 @@ pub fn run_in<R: Responder, I: Source<O>, O: Sink, L: Listener, F: Form>(
     converse(responder, source, sink, listener, form, bail, &mut buffer)
 }
 
-/// Answers the statements of a script as `run_in` does, in the plain form; a refused statement does not stop the run.
+/// Answers the statements of a script as `run_in` does, in the plain form. A refused statement does not stop the run.
 pub fn run<R: Responder, I: Source<O>, O: Sink, L: Listener>(
     responder: &mut R,
     source: &mut I,

@@ -1,4 +1,4 @@
-//! A script that comes part by part, from a host that has no source and no sink.
+//! A script that arrives in parts, from a host that has no source and no sink.
 ghost use Rattle.std.specs.Prelude.{◌≡◌, ◌≤◌, [], length, min, take, IsTrue, IsFalse, IfOk};
 ghost use Rattle.tql_spec.specs.Words.{is_empty};
 ghost use Rattle.tql_lex.specs.Feeding.{Feeds, Finishes};
@@ -13,8 +13,8 @@ use tql_lex::splitter::{LONGEST_PART, Splitter};
 use tql_memory::Memory;
 use tql_result::answer::Answer;
 
-/// A script that comes part by part: the host feeds bytes as they come, and takes the answers as soon as their
-/// statements are whole. How the bytes were cut into parts does not matter.
+/// A script that arrives in parts. The host feeds bytes as they come, and takes each answer as soon as its statement is
+/// whole. How the bytes are divided into parts does not matter.
 #[derive(Drop)]
 pub struct Session {
     splitter: Splitter,
@@ -33,8 +33,8 @@ impl Model for Session {
 impl Session {
     ghost use Rattle.tql_lex.specs.Holding.{Holds};
 
-    /// Returns a session that was fed nothing. It allocates 65,536 bytes for a part and as many for a statement's text,
-    /// and keeps the memory that a longer text grows in.
+    /// Returns a session without any input. Allocates 65,536 bytes for a part and the same for the text of a statement.
+    /// Longer texts are allocated in `memory` too.
     pub fn new(memory: Memory) -> Result<Session, AllocError>
         ensures holds { IfOk result (λ s. Holds s [] []) }
         ensures ready { IfOk result (λ s. s.ready ≡ []) }
@@ -47,8 +47,8 @@ impl Session {
         })
     }
 
-    /// Takes bytes from the front, and returns their number: at most 65,536, and zero while answers are left to be
-    /// taken or after `finish`. The host feeds the others again, after the next answers.
+    /// Takes bytes from the front and returns their number, at most 65,536. Returns zero while answers are pending and
+    /// after `finish`. The host feeds the remaining bytes again after it has taken the answers.
     pub fn feed(&mut self, bytes: &[u8]) -> usize
         ensures within { result ≤ length bytes.now }
         ensures feeds { Feeds self.old self.new (take result bytes.now) }
@@ -64,22 +64,23 @@ impl Session {
         count
     }
 
-    /// Ends the script: no more bytes come.
+    /// Ends the script: no more bytes follow.
     pub fn finish(&mut self)
         ensures { Finishes self.old self.new }
     {
         self.splitter.finish();
     }
 
-    /// Returns the line of the statement that was answered last: that of its first byte that counts, from 1.
+    /// Returns the line of the last answered statement, counted from 1: the line of its first byte outside blanks and
+    /// comments.
     pub fn line(&self) -> u64
         ensures { result ≡ self.now.line }
     {
         self.splitter.line()
     }
 
-    /// Answers the next statement. Returns None where the bytes that were fed hold no whole one. After `finish`, a text
-    /// that no `;` ends is refused as unfinished.
+    /// Answers the next statement. Returns None if the bytes fed so far contain no further whole statement. After
+    /// `finish`, a text without a closing `;` is refused as unfinished.
     pub fn next_answer<R: Responder>(&mut self, responder: &mut R) -> Option<Answer>
         ensures { AnswersNext R.answering result self.old self.new
             (R.stands responder.old) (R.stands responder.new) }
@@ -87,7 +88,7 @@ impl Session {
         answer_next(responder, &mut self.splitter, true, &mut self.detail)
     }
 
-    /// Returns the detail of the refusal of the statement that was answered last. It is in the responder's memory, and
+    /// Returns the detail of the refusal of the last answered statement. It is allocated in the responder's memory, and
     /// is freed by the next call of `next_answer`.
     pub fn detail(&self) -> Option<&Detail> {
         self.detail.as_ref()

@@ -7,7 +7,7 @@ use tql_detail::detail::Detail;
 use tql_result::answer::Answer;
 use tql_value::refusal::Refusal;
 
-/// A listener that keeps nothing of what it hears.
+/// A listener that ignores every answer.
 #[derive(Clone, Copy, Debug)]
 pub struct Silence;
 

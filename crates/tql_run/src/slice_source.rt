@@ -5,17 +5,17 @@ use crate::device::{Input, Source};
 use tql_result::device::DeviceFault;
 use tql_result::sink::Sink;
 
-/// A source over bytes in memory. The bytes that it has left are known, and it never fails.
+/// A source over bytes in memory. Its remaining bytes are known, and it never fails.
 #[derive(Drop)]
 pub struct SliceSource<'a> {
     left: &'a [u8],
-    /// The most bytes of a pull; 0 counts as 1.
+    /// The maximum number of bytes in a pull; 0 counts as 1.
     size: usize,
     ended: bool,
 }
 
 impl<'a> SliceSource<'a> {
-    /// Returns a source of these bytes, which gives as many at once as there is room for.
+    /// Returns a source of these bytes. Each pull fills the buffer as far as possible.
     pub fn new(bytes: &'a [u8]) -> SliceSource<'a>
         ensures left { ⟦<SliceSource<'a> as Input>⟧.left result ≡ Some bytes.now }
         ensures failures { ⟦<SliceSource<'a> as Input>⟧.failures result ≡ 0 }
@@ -24,7 +24,7 @@ impl<'a> SliceSource<'a> {
         SliceSource::in_pieces(bytes, usize::MAX)
     }
 
-    /// Returns a source of these bytes, which gives at most `size` at once; a size of 0 counts as 1.
+    /// Returns a source of these bytes. Each pull gives at most `size` bytes; a size of 0 counts as 1.
     pub fn in_pieces(bytes: &'a [u8], size: usize) -> SliceSource<'a>
         ensures left { ⟦<SliceSource<'a> as Input>⟧.left result ≡ Some bytes.now }
         ensures failures { ⟦<SliceSource<'a> as Input>⟧.failures result ≡ 0 }

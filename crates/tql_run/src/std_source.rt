@@ -1,4 +1,4 @@
-//! A source over a reader of the standard library.
+//! A source over a standard library reader.
 ghost use Rattle.std.specs.Prelude.{◌≡◌, ◌≢◌, IfErr, IsFalse};
 ghost use Rattle.std.specs.IoError.{error_kind};
 ghost use Rattle.std.specs.Io.{ReadsAtMost};
@@ -10,7 +10,7 @@ use std::io::{self, Error, ErrorKind, Read};
 use tql_result::device::DeviceFault;
 use tql_result::sink::Sink;
 
-/// Reads once, and again where a signal interrupts the read. It gives up after 2^64 - 1 interrupted reads.
+/// Reads once, and repeats a read that a signal interrupts. Gives up after 2^64 - 1 interrupted reads.
 fn read_again<R: Read>(reader: &mut R, buffer: &mut [u8]) -> io::Result<usize>
     ensures bound { ReadsAtMost result buffer.new }
     ensures bytes { ReadConsumes (R.remaining reader.old) (R.remaining reader.new) result buffer.new }
@@ -26,7 +26,7 @@ fn read_again<R: Read>(reader: &mut R, buffer: &mut [u8]) -> io::Result<usize>
     Err(Error::from(ErrorKind::TimedOut))
 }
 
-/// A source over a reader of the standard library. An interrupted read is repeated; a failed one is counted.
+/// A source over a standard library reader. An interrupted read is repeated, and a failed read is counted.
 #[derive(Drop)]
 pub struct StdSource<R> {
     reader: R,
@@ -35,7 +35,7 @@ pub struct StdSource<R> {
 }
 
 impl<R: Read + Drop> StdSource<R> {
-    /// Returns a source that has counted no failure, and has not said that its input has ended.
+    /// Returns a source that has counted no failure and has not reported the end of its input.
     pub fn new(reader: R) -> StdSource<R>
         ensures left { ⟦<StdSource<R> as Input>⟧.left result ≡ R.remaining reader }
         ensures failures { ⟦<StdSource<R> as Input>⟧.failures result ≡ 0 }

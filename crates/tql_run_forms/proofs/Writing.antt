@@ -1,4 +1,4 @@
--- From the push of an answer to what a form says of it.
+-- From the push of an answer to the contract of the form.
 use Rattle.std.proofs.Common.{◌≡◌, refl, ◌∙◌, sym, ap, subst, ℕ, suc, Bool, true, false, List, [], ◌∷◌, ◌++◌, Option}
 use Rattle.std.proofs.Common.{Ok, Err, inl, inr}
 use Rattle.std.proofs.Common.{arith, ◌+◌, ◌-◌, length-append}
@@ -61,7 +61,7 @@ next_number n now earlier e is = omega (arith, e, is)
 one_longer : (earlier : List Answer) (a : Answer) → length (earlier ++ a ∷ []) ≡ suc (length earlier)
 one_longer earlier a = let sum = length-append earlier (a ∷ []) in omega (arith, sum)
 
--- a line by a detail is one of the lines that may be written
+-- a line with a detail is one of the lines that may be written
 json_is : (number line : ℕ) (detail : Option (Bor Detail)) (a : Answer)
     → IsJsonAnswer number line a (json_of number line detail a)
 json_is number line detail (Replied (Refused e)) = record {
@@ -82,7 +82,7 @@ json_is number line detail (Replied (Done v n)) = refl
 json_is number line detail (Replied (Table headings rows)) = refl
 json_is number line detail Accepted = refl
 
--- the line of a refusal, by its detail
+-- the line of a refusal, given its detail
 pub refusal_line : (number line : ℕ) (detail : Option (Bor Detail)) (a : Answer) (at : ℕ) (fault : Fault)
     → is_refused a ≡ true → at ≡ line_of_detail line detail → fault ≡ fault_of_detail detail
     → json_text number at fault a ≡ json_of number line detail a
@@ -123,7 +123,7 @@ json_writes had now number line detail a (Err t) o n b k is pushes earlier e = r
   wrote = tt;
 }
 
--- ---- forms whose texts do not depend on the answers before
+-- ---- forms whose texts do not depend on earlier answers
 
 pub always_writes : {T E : Type 0} (texts : Texts) (number line : ℕ) (a : Answer) (text : List ℕ) (result : Result T E)
     (o n : Option (List ℕ)) (b k : ℕ) → ((earlier : List Answer) → texts earlier number line a text)
@@ -143,14 +143,14 @@ always_writes texts number line a text (Err t) o n b k is pushes earlier e = rec
 
 -- ---- boxes
 
--- what is no table has the text that it has without refusals
+-- an answer that is not a table has the same text as in plain text without refusals
 pub other_box : (a : Answer) → is_table a ≡ false → IsBoxAnswer a (accepted_answer a)
 other_box (Replied (Table headings rows)) is = let bad : true ≡ false = is in absurd cc
 other_box (Replied (Refused e)) is = refl
 other_box (Replied (Done v n)) is = refl
 other_box Accepted is = refl
 
--- a text by one of two layouts
+-- a text with one of two layouts
 pub either_text : {L : Type 0} (f : L → List ℕ) (a b l : L) → (l ≡ a) ⊎ (l ≡ b) → (f l ≡ f a) ⊎ (f l ≡ f b)
 either_text f a b l (inl e) = inl (ap f e)
 either_text f a b l (inr e) = inr (ap f e)

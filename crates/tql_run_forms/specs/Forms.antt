@@ -22,11 +22,11 @@ is_table Accepted = false
 
 -- ---- comma-separated values
 
--- a table, after an empty line where another came before it
+-- a table, after an empty line if another table came before it
 abbrev pub csv_part : Bool → List Name → List Row → List ℕ
 csv_part has_table headings rows = (if has_table then 13 ∷ 10 ∷ [] else []) ++ csv_text headings rows
 
--- an answer: tables alone have a text
+-- an answer: only tables have a text
 abbrev pub csv_answer : Bool → Answer → List ℕ
 csv_answer has_table (Replied (Table headings rows)) = csv_part has_table headings rows
 csv_answer has_table (Replied (Done v n)) = []
@@ -38,7 +38,7 @@ csv_texts earlier number line answer text = text ≡ csv_answer (list_any is_tab
 
 -- ---- JSON Lines
 
--- an answer: tables alone have a text
+-- an answer: only tables have a text
 abbrev pub jsonl_answer : Answer → List ℕ
 jsonl_answer (Replied (Table headings rows)) = jsonl_text headings rows
 jsonl_answer (Replied (Done v n)) = []
@@ -61,12 +61,12 @@ accepted_texts earlier number line answer text = text ≡ accepted_answer answer
 
 -- ---- boxes
 
--- a table in a box: its columns are laid out by their values, or not at all
+-- a table in a box, with its columns laid out by their values, or with no layout at all
 abbrev pub IsBox : List Name → List Row → List ℕ → Type 0
 IsBox headings rows text =
     (text ≡ box_text (box_layouts headings rows) headings rows) ⊎ (text ≡ box_text [] headings rows)
 
--- an answer: a refusal has no text
+-- an answer: the text of a refusal is empty
 abbrev pub IsBoxAnswer : Answer → List ℕ → Type 0
 IsBoxAnswer (Replied (Table headings rows)) text = IsBox headings rows text
 IsBoxAnswer (Replied (Refused e)) text = text ≡ []
@@ -78,18 +78,18 @@ box_texts earlier number line answer text = IsBoxAnswer answer text
 
 -- ---- JSON
 
--- the highest number of a statement
+-- the maximum statement number
 abbrev pub most_numbers : ℕ
 most_numbers = 2 ^ 64 - 1
 
--- a refusal, with what is known of some fault; without a column the line is that of the statement
+-- a refusal with some known details of its fault; without a column, the line is that of the statement
 pub record IsJsonRefusal (number line : ℕ) (answer : Answer) (text : List ℕ) : Type 0 where
   pub at : ℕ
   pub fault : Fault
   pub is_at : fault.column ≡ None → at ≡ line
   pub is : text ≡ json_text number at fault answer
 
--- the answer to the statement of this number, on this line
+-- the text of the answer to the statement with this number, on this line
 abbrev pub IsJsonAnswer : (number line : ℕ) → Answer → List ℕ → Type 0
 IsJsonAnswer number line (Replied (Refused e)) text = IsJsonRefusal number line (Replied (Refused e)) text
 IsJsonAnswer number line (Replied (Done v n)) text = text ≡ json_text number line unknown (Replied (Done v n))
@@ -97,10 +97,10 @@ IsJsonAnswer number line (Replied (Table headings rows)) text =
     text ≡ json_text number line unknown (Replied (Table headings rows))
 IsJsonAnswer number line Accepted text = text ≡ json_text number line unknown Accepted
 
--- the answers that a form may have written that counts these statements
+-- the lists of answers that a form with this statement count may have written
 abbrev pub json_wrote : ℕ → Written
 json_wrote statements answers = statements ≡ min (length answers) most_numbers
 
--- statements are numbered by the answers before them
+-- a statement is numbered by the answers before it
 abbrev pub json_texts : Texts
 json_texts earlier number line answer text = IsJsonAnswer (min (suc (length earlier)) most_numbers) line answer text

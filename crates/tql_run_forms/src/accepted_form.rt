@@ -13,7 +13,7 @@ use tql_result::reply::Reply;
 use tql_result::sink::Sink;
 use tql_run::form::Form;
 
-/// Pushes an answer unless it is a refusal, which has no text.
+/// Pushes an answer unless it is a refusal, which has an empty text.
 pub(crate) fn push_accepted<O: Sink>(sink: &mut O, answer: &Answer) -> Result<(), DeviceFault>
     requires { IsPrintableAnswer (answer_of answer.now) }
     ensures { Pushes (accepted_answer (answer_of answer.now)) result
@@ -25,7 +25,7 @@ pub(crate) fn push_accepted<O: Sink>(sink: &mut O, answer: &Answer) -> Result<()
     }
 }
 
-/// Answers as `write_answer` writes them, for a terminal that shows the listener's lines too. Refusals are left out.
+/// Writes answers as `write_answer` does, for a terminal that also shows the listener's lines. Refusals are left out.
 #[derive(Clone, Copy, Debug)]
 pub struct AcceptedForm;
 

@@ -1,4 +1,4 @@
-//! Answers for people: tables in boxes, and the other answers in plain text.
+//! Answers for people: tables in boxes, and other answers in plain text.
 ghost use Rattle.std.specs.Prelude.{⊤, List, ℕ, IsFalse};
 ghost use Rattle.tql_result.specs.Devices.{Pushes};
 ghost use Rattle.tql_result.specs.Replies.{answer_of, headings_of, table_rows, IsPrintableAnswer};
@@ -27,7 +27,7 @@ fn push_box<O: Sink>(memory: Memory, sink: &mut O, table: &ResultTable) -> Resul
     write_box_table(memory, sink, table)
 }
 
-/// Pushes an answer that is no table: a refusal has no text, and any other is pushed as `write_answer` does.
+/// Pushes an answer that is not a table: nothing for a refusal, and otherwise the text of `write_answer`.
 fn push_other<O: Sink>(sink: &mut O, answer: &Answer) -> Result<(), DeviceFault>
     requires printable { IsPrintableAnswer (answer_of answer.now) }
     requires other { IsFalse (table_of (answer_of answer.now)) }
@@ -49,14 +49,14 @@ fn push_answer<O: Sink>(memory: Memory, sink: &mut O, answer: &Answer) -> Result
     }
 }
 
-/// Tables in boxes, as `write_box_table` writes them, and other answers as `write_answer` does. Refusals are left out.
+/// Writes tables in boxes, as `write_box_table` does, and other answers as `write_answer` does. Refusals are left out.
 #[derive(Clone, Copy)]
 pub struct BoxForm {
     memory: Memory,
 }
 
 impl BoxForm {
-    /// Returns a form that lays out its tables in this memory.
+    /// Returns a form that lays out its tables in `memory`.
     pub fn new(memory: Memory) -> BoxForm {
         BoxForm { memory }
     }

@@ -28,7 +28,7 @@ fn push_next_table<O: Sink>(sink: &mut O, table: &ResultTable) -> Result<(), Dev
     write_csv_table(sink, table)
 }
 
-/// Pushes a table, after an empty line where another came before it.
+/// Pushes a table, after an empty line if another table came before it.
 fn push_table<O: Sink>(
     sink: &mut O,
     has_table: bool,
@@ -45,7 +45,7 @@ fn push_table<O: Sink>(
     }
 }
 
-/// Pushes an answer if it is a table; any other has no text.
+/// Pushes an answer if it is a table; other answers have an empty text.
 fn push_answer<O: Sink>(sink: &mut O, has_table: bool, answer: &Answer) -> Result<(), DeviceFault>
     requires { IsPrintableAnswer (answer_of answer.now) }
     ensures { Pushes (csv_answer has_table (answer_of answer.now)) result
@@ -57,8 +57,8 @@ fn push_answer<O: Sink>(sink: &mut O, has_table: bool, answer: &Answer) -> Resul
     }
 }
 
-/// Tables as comma-separated values, as `write_csv_table` writes them, with an empty line between each two. Other
-/// answers are left out.
+/// Writes tables as comma-separated values, as `write_csv_table` does, with an empty line between tables. Other answers
+/// are left out.
 #[derive(Clone, Copy, Debug)]
 pub struct CsvForm {
     has_table: bool,

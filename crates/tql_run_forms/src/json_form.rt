@@ -28,7 +28,7 @@ fn words_of(text: &Option<String<Memory>>) -> Option<&str>
     }
 }
 
-/// Returns the line of a fault, which is that of its statement where its place is not known.
+/// Returns the line of a fault, or the line of its statement if the place of the fault is not known.
 fn line_of(line: u64, detail: Option<&Detail>) -> u64
     ensures { result ≡ line_of_detail line detail.entry }
 {
@@ -51,14 +51,14 @@ fn column_of(place: Option<Place>) -> Option<u64>
     }
 }
 
-/// Returns a list of names, if it has one.
+/// Returns the names, or None for an empty list.
 fn listed(names: &[String<Memory>]) -> Option<&[String<Memory>]>
     ensures { option_map (λ l. l.now) result ≡ listed_of names.now }
 {
     if names.is_empty() { None } else { Some(names) }
 }
 
-/// Returns what is known of a fault.
+/// Returns the known details of a fault.
 fn diagnostic_of(detail: Option<&Detail>) -> Diagnostic<'_>
     ensures { fault_of result ≡ fault_of_detail detail.entry }
 {
@@ -75,7 +75,7 @@ fn diagnostic_of(detail: Option<&Detail>) -> Diagnostic<'_>
     }
 }
 
-/// Pushes an answer as a line of JSON, a refusal with its detail.
+/// Pushes an answer as a line of JSON, with the detail of a refusal.
 fn push_answer<O: Sink>(
     sink: &mut O,
     statement: u64,
@@ -95,9 +95,9 @@ fn push_answer<O: Sink>(
     }
 }
 
-/// Every answer as a line of JSON, as `write_json_answer` writes it. Statements are numbered by the answers that the
-/// form has written, so over several scripts too; the number stays at 2^64 - 1. The line of a refusal is that of the
-/// fault where it is known.
+/// Writes every answer as a line of JSON, as `write_json_answer` does. The statement number counts the answers that the
+/// form has written, across scripts, and saturates at 2^64 - 1. The line of a refusal is that of the fault if it is
+/// known.
 #[derive(Clone, Copy, Debug)]
 pub struct JsonForm {
     /// The number of answers written.

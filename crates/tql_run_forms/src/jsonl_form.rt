@@ -13,7 +13,7 @@ use tql_result::sink::Sink;
 use tql_result_forms::jsonl::write_json_rows;
 use tql_run::form::Form;
 
-/// Pushes an answer if it is a table; any other has no text.
+/// Pushes an answer if it is a table; other answers have an empty text.
 fn push_answer<O: Sink>(sink: &mut O, answer: &Answer) -> Result<(), DeviceFault>
     requires { IsPrintableAnswer (answer_of answer.now) }
     ensures { Pushes (jsonl_answer (answer_of answer.now)) result
@@ -25,7 +25,7 @@ fn push_answer<O: Sink>(sink: &mut O, answer: &Answer) -> Result<(), DeviceFault
     }
 }
 
-/// Tables as JSON Lines, as `write_json_rows` writes them. Other answers are left out.
+/// Writes tables as JSON Lines, as `write_json_rows` does. Other answers are left out.
 #[derive(Clone, Copy, Debug)]
 pub struct JsonlForm;
 

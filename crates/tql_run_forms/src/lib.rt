@@ -1,4 +1,4 @@
-//! Forms of a run's answers: comma-separated values, JSON, JSON Lines, boxes, and plain text without refusals.
+//! Output formats of a run: comma-separated values, JSON, JSON Lines, boxes, and plain text without refusals.
 #![tactic(auto)]
 
 pub mod accepted_form;

@@ -1,4 +1,4 @@
--- An aggregate of values, and what is evaluated on a group, do not see the order of its rows.
+-- Aggregates of values, and the results of evaluation on a group, do not depend on the order of the rows.
 use Rattle.std.proofs.Common.{◌≡◌, Bool, true, false, List, [], ◌∷◌, refl, sym, ap, ◌∙◌, arith, subst}
 use Rattle.std.specs.Prelude.{ℤ, pos, ◌+ℤ◌, Option, Some, None, not, if◌then◌else◌}
 use Rattle.std.specs.Cmp.{IsTotalOrder}
@@ -14,7 +14,7 @@ use Rattle.tql_spec.proofs.Members.{same-self, same-is}
 use Rattle.tql_spec.proofs.Orders.{order-total, order-ties}
 use Rattle.tql_spec.proofs.BagFolds.{folded, AreSteps, same_fold, same_length, not_nothing, not_something}
 
--- steps that change places outright
+-- steps whose order does not matter, up to equality
 by_equality : {X R : Type 0} (f : X → R → R) → ((x y : X) (a : R) → f x (f y a) ≡ f y (f x a))
     → AreSteps {X = X} {R = R} (λ a b. a ≡ b) f
 by_equality f h = record {
@@ -25,14 +25,14 @@ by_equality f h = record {
   exchanged = h;
 }
 
--- values folded in any order
+-- the fold of values does not depend on their order, if the order of two steps does not
 values_fold : {R : Type 0} (f : Datum → R → R) (z : R) → ((x y : Datum) (a : R) → f x (f y a) ≡ f y (f x a))
     → (vs ws : List Datum) → SameBag vs ws → folded f z vs ≡ folded f z ws
 values_fold f z h vs ws b = same_fold same same-self same-is (λ a b. a ≡ b) f (by_equality f h) z vs ws b
 
 -- ---- sums
 
--- what a value adds to the sum
+-- the amount that a value adds to a sum
 abbrev amount : Datum → ℤ
 amount (Int n) = n
 amount _ = pos 0
@@ -56,9 +56,9 @@ total_fold (Moment m ∷ vs) = let h = total_fold vs in h ∙ omega (arith, ints
 total_same : (vs ws : List Datum) → SameBag vs ws → total vs ≡ total ws
 total_same vs ws h = total_fold vs ∙ values_fold add_amount (pos 0) add_exchanged vs ws h ∙ sym (total_fold ws)
 
--- ---- the least and the greatest
+-- ---- minimum and maximum
 
--- the tests of a total order in which values that tie are one
+-- a strict total order, as a test; values that tie are equal
 record IsStrict (better : Datum → Datum → Bool) : Type 0 where
   one_way : (a b : Datum) → better a b ≡ true → better b a ≡ false
   ties : (a b : Datum) → better a b ≡ false → better b a ≡ false → a ≡ b
@@ -103,7 +103,7 @@ module _ (R : Datum → Datum → Ordering) (o : IsTotalOrder R) (one : (a b : D
   strict : IsStrict lower
   strict = record { one_way = lower_one_way; ties = lower_ties; along = lower_along }
 
--- an order read from behind
+-- the order reversed
 abbrev behind : Datum → Datum → Ordering
 behind a b = order b a
 
@@ -125,7 +125,7 @@ greater_is a b = elim (order b a) as (λ r. order b a ≡ r → is_gt (order a b
 ] refl
 
 module _ (better : Datum → Datum → Bool) (s : IsStrict better) where
-  -- the better of two, the second where neither is
+  -- the better of two values, or the second if neither is better
   abbrev pick : Datum → Datum → Datum
   pick b v = if better b v then b else v
 
@@ -194,7 +194,7 @@ greatest_same vs ws h =
 
 -- ---- aggregates
 
--- an aggregate of the same values
+-- an aggregate depends only on the bag of values
 pub aggregate_same : (f : Function) (vs ws : List Datum) → SameBag vs ws → aggregate f vs ≡ aggregate f ws
 aggregate_same Count vs ws h = ap (λ n. Some (Int (pos n))) (same_length h)
 aggregate_same Sum [] [] h = refl
@@ -204,7 +204,7 @@ aggregate_same Sum (v ∷ vs) (w ∷ ws) h = ap exact (total_same (v ∷ vs) (w 
 aggregate_same Min vs ws h = ap Some (least_same vs ws h)
 aggregate_same Max vs ws h = ap Some (greatest_same vs ws h)
 
--- and of those of them that are there
+-- an aggregate of the values that are not null depends only on the bag of values
 pub present_same : (f : Function) (vs ws : List Datum) → SameBag vs ws
     → aggregate f (present vs) ≡ aggregate f (present ws)
 present_same f vs ws h = aggregate_same f (present vs) (present ws) (same-filter (λ v. not (is_null v)) h)

@@ -1,4 +1,4 @@
--- An answer depends on the bags of its references alone, where what it shows of its rows or groups does.
+-- An answer depends only on the bags of its references, if the output after grouping depends only on the bag of rows.
 use Rattle.std.proofs.Common.{◌≡◌, Bool, List, [], ◌∷◌, ℕ, refl, subst}
 use Rattle.std.specs.Prelude.{Option, Some, None}
 use Rattle.tql_spec.specs.Words.{◌>>=◌, map_all, filter_all, with_front}
@@ -36,14 +36,14 @@ module _ (bag bag' : Ref → List Row) (each : (r : Ref) → SameBag (bag r) (ba
 
 -- ---- products
 
--- each bag is the same
+-- the lists have equal length, and the bags at each position are the same
 abbrev AllSame : List (List Row) → List (List Row) → Type 0
 AllSame [] [] = Unit {0}
 AllSame [] (ys ∷ yss) = ⊥
 AllSame (xs ∷ xss) [] = ⊥
 AllSame (xs ∷ xss) (ys ∷ yss) = SameBag xs ys × AllSame xss yss
 
--- both are none, or each bag is the same
+-- both are None, or the lists have the same bags
 abbrev EachSame : Option (List (List Row)) → Option (List (List Row)) → Type 0
 EachSame None None = Unit {0}
 EachSame None (Some ys) = ⊥
@@ -79,7 +79,7 @@ same_of None (Some ys) h = absurd h
 same_of (Some xs) None h = absurd h
 same_of (Some xs) (Some ys) h = h
 
--- what a query gives of its scopes, in two steps or at once
+-- the items and DISTINCT after the scopes, as two steps or as one
 at_once : (having : List Cond) (items : List Expr) (distinct : Bool) (o : Option (List Scope))
     → ((o >>= λ kept. map_all (λ (s : Scope). map_all (eval s.group s.row) items) kept) >>= λ out.
     Some (if_distinct distinct out))
@@ -88,7 +88,7 @@ at_once : (having : List Cond) (items : List Expr) (distinct : Bool) (o : Option
 at_once having items distinct None = refl
 at_once having items distinct (Some kept) = refl
 
--- behind the filter
+-- the part of a query after WHERE: grouping, HAVING, items and DISTINCT
 abbrev behind : Option (List ℕ) → List Cond → List Expr → Bool → List Row → Option (List Row)
 behind grouping having items distinct rows =
     filter_all (λ (s : Scope). passes s.group s.row having) (scopes grouping rows) >>= λ kept.
@@ -109,7 +109,7 @@ module _ (groups : GroupsKeepNoOrder) where
       (subst (λ p. Same (shown having items (scopes grouping rows) >>= λ out. Some (if_distinct distinct out)) p)
       (at_once having items distinct (kept rows')) all)
 
-  -- from the chains on
+  -- the part of a query after the chains gives the same bag
   rest_same : (q : Query) → NamesGroups q.grouping q.having q.items → (o p : Option (List (List Row))) → EachSame o p
       → Same (o >>= λ chains. keep q.filter (product chains) >>= behind q.grouping q.having q.items q.distinct)
       (p >>= λ chains. keep q.filter (product chains) >>= behind q.grouping q.having q.items q.distinct)
@@ -122,7 +122,7 @@ module _ (groups : GroupsKeepNoOrder) where
       (behind_same q.grouping q.having q.items q.distinct names)
       (kept_same q.filter (product xss) (product yss) (product_same xss yss h))
 
-  -- the law of answers from that of groups
+  -- the law of answers, from the law of groups
   pub answers : AnswersKeepNoOrder
   answers q bag bag' names each =
       same_rows (answer bag q) (answer bag' q)

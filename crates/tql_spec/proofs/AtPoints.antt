@@ -1,4 +1,4 @@
--- The tests of a copy, against what holds at every point.
+-- The tests of a copy decide whether its keys and references hold at every point.
 use Rattle.std.proofs.Common.{◌≡◌, ◌<◌, refl, sym, ap, subst, ◌∙◌, ℕ, zero, suc, Bool, true, List, [], ◌∷◌, length, inl}
 use Rattle.std.proofs.Common.{inr, arith}
 use Rattle.std.specs.Prelude.{Option, Some, None}
@@ -20,18 +20,18 @@ use Rattle.tql_spec.proofs.ConstraintRuns.{runs_keep_constraints}
 
 -- ---- tests over members and tables
 
--- a test that holds of all holds of a member
+-- a test that passes for a list passes for each member
 pub all_in : {A : Type 0} (p : A → Bool) (xs : List A) (x : A) → list_all p xs ≡ true → In x xs → p x ≡ true
 all_in p [] x e m = absurd m
 all_in p (y ∷ xs) x e (inl q) = ap p q ∙ (both (p y) (list_all p xs) e).0
 all_in p (y ∷ xs) x e (inr m) = all_in p xs x (both (p y) (list_all p xs) e).1 m
 
--- and the other way
+-- the converse: a test that passes for each member passes for the list
 pub in_all : {A : Type 0} (p : A → Bool) (xs : List A) → ((x : A) → In x xs → p x ≡ true) → list_all p xs ≡ true
 in_all p [] h = refl
 in_all p (x ∷ xs) h = and_true (p x) (list_all p xs) (h x (inl refl)) (in_all p xs (λ y m. h y (inr m)))
 
--- a test of each table holds of a table
+-- a test that passes for a copy passes for each table
 pub table_in : (test : TableDef → List Row → Bool) (defs : List TableDef) (copy : Copy) → length copy ≡ length defs
     → each_table test defs copy ≡ true → (t : ℕ) → t < length defs
     → test (table_at defs t) (table_rows defs copy t) ≡ true
@@ -43,7 +43,7 @@ table_in test (d ∷ defs) (rows ∷ copy) n e (suc t) l =
     table_in test defs copy (omega arith) (both (test d (shown_rows d rows)) (each_table test defs copy) e).1 t
     (omega arith)
 
--- and the other way
+-- the converse: a test that passes for each table passes for the copy
 pub in_tables : (test : TableDef → List Row → Bool) (defs : List TableDef) (copy : Copy)
     → ((t : ℕ) → t < length defs → test (table_at defs t) (table_rows defs copy t) ≡ true)
     → each_table test defs copy ≡ true
@@ -53,7 +53,7 @@ in_tables test (d ∷ defs) (rows ∷ copy) h =
     and_true (test d (shown_rows d rows)) (each_table test defs copy) (h 0 (omega arith))
     (in_tables test defs copy (λ t l. h (suc t) (omega arith)))
 
--- a reference to its parent's place
+-- the test of a reference, by the table and the rows of its parent
 pub reference_is : (defs : List TableDef) (copy : Copy) (d : TableDef) (rows : List Row) (f : Reference) (o : Option ℕ)
     → reference_to defs copy d rows f o ≡ reference_holds d (parent_at defs o) f (parent_rows defs copy o) rows
 reference_is defs copy d rows f None = refl
@@ -61,7 +61,7 @@ reference_is defs copy d rows f (Some t) = refl
 
 -- ---- a copy
 
--- where the tests hold, keys and references hold at every point
+-- if the tests pass, keys and references hold at every point
 to_points : (defs : List TableDef) (copy : Copy) → CopyHolds defs copy → HoldsAtPoints defs copy
 to_points defs copy h = record {
   as_many = h.as_many;
@@ -79,7 +79,7 @@ to_points defs copy h = record {
       (sym (reference_is defs copy d (table_rows defs copy t) f o) ∙ tested);
 }
 
--- and the other way
+-- the converse: if keys and references hold at every point, the tests pass
 from_points : (defs : List TableDef) (copy : Copy) → HoldsAtPoints defs copy → CopyHolds defs copy
 from_points defs copy h = record {
   as_many = h.as_many;
@@ -94,13 +94,13 @@ from_points defs copy h = record {
       (parent_rows defs copy (place_of f.parent defs)) (table_rows defs copy t)).1 (h.references t l f m)));
 }
 
--- the tests of a copy say what holds at every point
+-- the law: the tests of a copy are right
 pub copy_tests_are_right : CopyTestsAreRight
 copy_tests_are_right defs copy = (to_points defs copy, from_points defs copy)
 
 -- ---- runs
 
--- so in each of some copies
+-- from the tests to every point, for each copy of a list
 each_to_points : (defs : List TableDef) (es : List Entry) → AllByRecursion (λ (e : Entry). CopyHolds defs e.copy) es
     → (e : Entry) → In e es → HoldsAtPoints defs e.copy
 each_to_points defs [] h e m = absurd m
@@ -108,19 +108,19 @@ each_to_points defs (x ∷ es) h e (inl q) =
     subst (λ (y : Entry). HoldsAtPoints defs y.copy) (sym q) (to_points defs x.copy h.0)
 each_to_points defs (x ∷ es) h e (inr m) = each_to_points defs es h.1 e m
 
--- and the other way
+-- from every point to the tests, for each copy of a list
 each_from_points : (defs : List TableDef) (es : List Entry) → ((e : Entry) → In e es → HoldsAtPoints defs e.copy)
     → AllByRecursion (λ (e : Entry). CopyHolds defs e.copy) es
 each_from_points defs [] h = tt
 each_from_points defs (x ∷ es) h =
     (from_points defs x.copy (h x (inl refl)), each_from_points defs es (λ e m. h e (inr m)))
 
--- a run keeps what holds at every point
+-- the law: a run preserves keys and references at every point
 pub runs_keep_points : RunsKeepPoints
 runs_keep_points old new pieces replies h r =
     each_to_points new.definitions (entries new)
     (runs_keep_constraints old new pieces replies (each_from_points old.definitions (entries old) h) r)
 
--- so it holds in every state that a run reaches
+-- the law: they hold in every state that a run reaches
 pub reached_hold_at_points : ReachedHoldAtPoints
 reached_hold_at_points s r = runs_keep_points new_state s r.pieces r.replies (λ e m. absurd m) r.run

@@ -1,4 +1,4 @@
--- What keeps a bag, and sums over bags.
+-- Operations that preserve bags, and sums over bags.
 use Rattle.std.proofs.Common.{◌≡◌, ℕ, ◌+◌, Bool, true, false, cond, List, [], ◌∷◌, ◌++◌, map, filter, flat_map, refl}
 use Rattle.std.proofs.Common.{sym, ap, ◌∙◌, arith, IsPermutation}
 use Rattle.std.specs.List.{sum_by}
@@ -32,7 +32,7 @@ sum-flat_map h w (x ∷ xs) =
     ap (sum_by w) (flat_map-cons h x xs) ∙ sum_by-append w (h x) (flat_map h xs) in
     e ∙ ap (λ n. sum_by w (h x) + n) (sum-flat_map h w xs) ∙ sym (sum_by-cons (λ y. sum_by w (h y)) x xs)
 
--- weights that agree everywhere
+-- sums by weights that agree are equal
 pub sum-same : {X : Type 0} (v w : X → ℕ) → ((x : X) → v x ≡ w x) → (xs : List X) → sum_by v xs ≡ sum_by w xs
 sum-same v w h [] = refl
 sum-same v w h (x ∷ xs) = omega (arith, sum_by-cons v x xs, sum_by-cons w x xs, h x, sum-same v w h xs)
@@ -42,7 +42,7 @@ sum-both v w [] = refl
 sum-both v w (x ∷ xs) =
     omega (arith, sum_by-cons (λ x. v x + w x) x xs, sum_by-cons v x xs, sum_by-cons w x xs, sum-both v w xs)
 
--- ---- what keeps a bag
+-- ---- operations that preserve bags
 
 pub same-refl : {X : Type 0} (xs : List X) → SameBag xs xs
 same-refl xs = record { totals = λ w. refl }

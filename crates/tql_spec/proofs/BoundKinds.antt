@@ -1,4 +1,4 @@
--- What INSERT, UPDATE and DELETE are bound to gives each column values of its kind.
+-- Bound INSERT, UPDATE and DELETE statements give each column values of its kind.
 use Rattle.std.proofs.Common.{◌≡◌, refl, sym, ap, subst, ◌∙◌, ℕ, ◌+◌, zero, suc, Bool, true, false, List, [], ◌∷◌, ◌++◌}
 use Rattle.std.proofs.Common.{map, get_or, inl, inr, arith}
 use Rattle.std.specs.Prelude.{Option, Some, None, is_some}
@@ -26,9 +26,9 @@ use Rattle.tql_spec.proofs.ExprKinds.{FitsKnown, FitsScope, Keeps, literal_keeps
 use Rattle.tql_spec.proofs.RowKinds.{cell_kind}
 use Rattle.tql_spec.proofs.CreateKinds.{same_kind_is, not_false, or_first_false, or_second_false}
 
--- ---- lists checked
+-- ---- lists of checked values
 
--- a value among those checked is an element's, which has no fault
+-- if no check has a fault, each value of the checked list is the value of an element without faults
 pub in_checked : {A B : Type 0} (f : A → Checked B) (y : B) (xs : List A) → In y (check_each f xs).value
     → (check_each f xs).faults ≡ []
     → (x : A) × In x xs × (y ≡ (f x).value) × ((f x).faults ≡ [])
@@ -39,13 +39,13 @@ in_checked f y (x ∷ xs) (inr m) e =
     (no_right (f x).faults ((check_each f xs).faults ++ []) e)) in
     (r.0, inr r.1, r.2, r.3)
 
--- an element's value is among them
+-- the value of an element is in the checked list
 checked_in : {A B : Type 0} (f : A → Checked B) (x : A) (xs : List A) → In x xs → In (f x).value (check_each f xs).value
 checked_in f x [] m = absurd m
 checked_in f x (y ∷ xs) (inl e) = inl (ap (λ z. (f z).value) e)
 checked_in f x (y ∷ xs) (inr m) = inr (checked_in f x xs m)
 
--- where none passes a test, no member does
+-- if no member passes a test, a given member does not
 pub none_any : {X : Type 0} (p : X → Bool) (x : X) (xs : List X) → In x xs → list_any p xs ≡ false → p x ≡ false
 none_any p x [] m e = absurd m
 none_any p x (y ∷ xs) (inl q) e = ap p q ∙ or_first_false (p y) (list_any p xs) e
@@ -53,19 +53,19 @@ none_any p x (y ∷ xs) (inr m) e = none_any p x xs m (or_second_false (p y) (li
 
 -- ---- kinds
 
--- what a kind takes, another that is not refused takes too
+-- a value allowed for one known kind is allowed for an equal kind
 takes_more : (k : Kind) (o l : Option Kind) → is_other_kind k o ≡ false → Takes o l → Takes (Some k) l
 takes_more k o None e h = tt
 takes_more k None (Some l) e h = absurd (cc)
 takes_more k (Some j) (Some l) e h = h ∙ ap Some (sym (same_kind_is k j (not_false (same_kind k j) e)))
 
--- expressions whose values columns of these kinds take, as many
+-- expressions whose values are allowed in columns of these kinds, one for each
 abbrev pub Fit : List Kind → List Typed → Type 0
 Fit [] [] = Unit {0}
 Fit (k ∷ ks) (c ∷ cs) = ((v : Datum) → IsOfKind c.kind v → IsOfKind (Some k) v) × Fit ks cs
 Fit _ _ = ⊥
 
--- so it is where the test finds no misfit
+-- if the test finds no misfit, the cells fit
 pub no_misfit : (ks : List Kind) (cells : List Typed) → cells_misfit ks (map (λ (c : Typed). c.kind) cells) ≡ false
     → Fit ks cells
 no_misfit [] [] e = tt
@@ -101,7 +101,7 @@ tuple_gives ks t e =
     cells_give ks (t.first ∷ t.more)
     (no_misfit ks cells.value (no_fault misfit TypesDoNotFit (no_right cells.faults (fault_if misfit TypesDoNotFit) e)))
 
--- INSERT with tuples
+-- INSERT with tuples is typed
 pub insert_typed : (defs : List TableDef) (n : Name) (ns : List Name) (tuples : List Tuple)
     → (insert_values defs n ns tuples).faults ≡ [] → IsTypedBound defs (insert_values defs n ns tuples).value
 insert_typed defs n ns tuples e x m =
@@ -116,7 +116,7 @@ insert_typed defs n ns tuples e x m =
 
 -- ---- assignments
 
--- the kind of a column, found in two ways
+-- the two ways to find the kind of a column agree
 pub kind_at_is : (cs : List definition.Column) (i : ℕ)
     → kind_at cs i ≡ get_or (map (λ (c : definition.Column). c.kind) cs) i Ints
 kind_at_is [] i = refl
@@ -134,7 +134,7 @@ own_fits d row h = record { each = known }
         (cell_kind (kinds_of d) row h i)))
     known k (inr m) = absurd m
 
--- the value of an assignment
+-- the value of an assignment is of its column's kind
 assigned_value : (d : TableDef) (s : SetTree) → (assignment d s).faults ≡ []
     → (row : Row) → AreOfKinds (kinds_of d) row → (v : Datum) → eval [] row (assignment d s).value.value ≡ Some v
     → IsOfKind (Some (column_kind d (assignment d s).value.column)) v
@@ -149,7 +149,7 @@ assigned_value d s e row h v q =
     takes_more (column_kind d i.value) c.value.kind (kind_of v) (no_fault other TypesDoNotFit third)
     ((cell_keeps (own_scope d) s.value).of_kind [] row (λ r m. absurd m) (own_fits d row h) v q)
 
--- in a change of a portion it sets none of the period's columns
+-- in a change of a portion, an assignment sets no column of the period
 assigned_column : (d : TableDef) (p : Option PortionTree) (sets : List SetTree) (s : SetTree) → In s sets
     → sets_period d p (assigned_columns d (map (λ (x : SetTree). x.column) sets)).value ≡ false
     → is_some (portion d p).value ≡ true
@@ -161,7 +161,7 @@ assigned_column d (Some p) sets s m e q =
     (checked_in (column_number (names_of d)) s.column (map (λ (x : SetTree). x.column) sets)
     (in_map (λ (x : SetTree). x.column) s sets m)) e
 
--- UPDATE
+-- UPDATE is typed
 pub update_typed : (defs : List TableDef) (n : Name) (p : Option PortionTree) (sets : List SetTree)
     (c : Option Condition)
     → (update defs n p sets c).faults ≡ [] → IsTypedBound defs (update defs n p sets c).value

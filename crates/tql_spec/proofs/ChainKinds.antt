@@ -1,4 +1,4 @@
--- The rows of a query's chains, side by side, have the kinds of the references in its scope.
+-- The joined rows of a query's chains have the kinds of the references in its scope.
 use Rattle.std.proofs.Common.{◌≡◌, ◌≤◌, refl, sym, ap, subst, ◌∙◌, ℕ, ◌+◌, List, [], ◌∷◌, ◌++◌, map, length, inl, inr}
 use Rattle.std.proofs.Common.{arith, length-append, get_or-append-add}
 use Rattle.std.specs.Prelude.{replicate, Some}
@@ -25,7 +25,7 @@ use Rattle.tql_spec.proofs.JoinKinds.{within_more}
 -- ---- chains
 
 module _ (defs : List TableDef) (bag : Ref → List Row) (typed : IsTypedBag defs bag) where
-  -- one more reference joined
+  -- a row joined with one more reference fits the wider scope
   joined_wide : (scope : List Known) (width : ℕ) (r : RefTree) → Within scope width → (rows : List Row)
       → ((x : Row) → In x rows → Wide scope width x)
       → (z : Row) → IsPairOf (Wide scope width) (AreOfKinds (column_kinds (source defs width r).value.known.columns)) z
@@ -35,7 +35,7 @@ module _ (defs : List TableDef) (bag : Ref → List Row) (typed : IsTypedBag def
       (sym p.whole)
       (wider scope width (source defs width r).value.known p.left p.right n p.first refl p.second)
 
-  -- nulls in the columns of a reference
+  -- nulls are of the kinds of a reference's columns
   nulls_typed : (offset : ℕ) (r : RefTree)
       → AreOfKinds (column_kinds (source defs offset r).value.known.columns)
       (replicate (source defs offset r).value.ref.width Null)
@@ -44,13 +44,13 @@ module _ (defs : List TableDef) (bag : Ref → List Row) (typed : IsTypedBag def
       (length-map (source defs offset r).value.known.columns (λ c. c.kind))
       (null_kinds (column_kinds (source defs offset r).value.known.columns))
 
-  -- what joins so far are: their rows, begun with these, are so wide
+  -- the joins so far, applied to the rows `begun`, give rows of the scope's width and kinds
   record IsJoined (begun : List Row) (so : Joined) : Type 0 where
     within : Within so.scope so.width
     wide : (rows : List Row) → joins_from bag begun so.joins ≡ Some rows → (x : Row) → In x rows
         → Wide so.scope so.width x
 
-  -- one join behind others
+  -- a list of joins with one more at the end: first the list, then the last join
   last_join : (begun : List Row) (js : List Join) (j : Join) (out : List Row)
       → joins_from bag begun (js ++ j ∷ []) ≡ Some out
       → (mid : List Row) × (joins_from bag begun js ≡ Some mid) × (joined_with bag mid j ≡ Some out)
@@ -60,7 +60,7 @@ module _ (defs : List TableDef) (bag : Ref → List Row) (typed : IsTypedBag def
       (λ more q p. let r = last_join more js j out p in
       (r.0, ap (λ o. o >>= λ m. joins_from bag m js) q ∙ r.1, r.2))
 
-  -- one more
+  -- one more join preserves this
   join_step : (begun : List Row) (so : Joined) (r : RefTree) (j : Join) → IsJoined begun so
       → ((rows out : List Row) → ((x : Row) → In x rows → Wide so.scope so.width x) → joined_with bag rows j ≡ Some out
       → (z : Row) → In z out → IsPairOf (Wide so.scope so.width)
@@ -95,7 +95,7 @@ module _ (defs : List TableDef) (bag : Ref → List Row) (typed : IsTypedBag def
   joins_kept begun so [] h = h
   joins_kept begun so (j ∷ js) h = joins_kept begun (join defs so j).value js (join_kept begun so j h)
 
-  -- the first reference
+  -- the first reference alone has this property
   first_joined : (r : RefTree) → IsJoined (bag (source defs 0 r).value.ref)
       (record { joins = []; scope = (source defs 0 r).value.known ∷ []; width = width_of (source defs 0 r).value })
   first_joined r =
@@ -112,7 +112,7 @@ module _ (defs : List TableDef) (bag : Ref → List Row) (typed : IsTypedBag def
             record { many = y.many ∙ omega arith; fits = y.fits };
       }
 
-  -- a chain
+  -- the rows of a chain have the width and the kinds of its scope
   chain_wide : (c : ChainTree) (rows : List Row) → chain_rows bag (chain defs c).value.chain ≡ Some rows
       → Within (chain defs c).value.scope (chain defs c).value.width
       × ((x : Row) → In x rows → Wide (chain defs c).value.scope (chain defs c).value.width x)
@@ -124,12 +124,12 @@ module _ (defs : List TableDef) (bag : Ref → List Row) (typed : IsTypedBag def
 
   -- ---- products
 
-  -- three lists joined
+  -- appending rows is associative
   three : (xs ys zs : Row) → xs ++ (ys ++ zs) ≡ (xs ++ ys) ++ zs
   three [] ys zs = refl
   three (x ∷ xs) ys zs = ap (λ l. x ∷ l) (three xs ys zs)
 
-  -- a row of a chain, between others
+  -- a row of a chain, between other cells, fits its reference moved by the cells before it
   moved_fits : (p x y : Row) (k : Known) → k.offset + length k.columns ≤ length x → FitsKnown x k
       → FitsKnown (p ++ (x ++ y)) (moved (length p) k)
   moved_fits p x y k w h i l =
@@ -138,7 +138,7 @@ module _ (defs : List TableDef) (bag : Ref → List Row) (typed : IsTypedBag def
       (sym (ap (cell (p ++ (x ++ y))) at ∙ get_or-append-add p (x ++ y) (k.offset + i) Null))
       (longer_fits k x y w h i l)
 
-  -- one chain more
+  -- the product with one more chain fits the scope
   product_step : (p x y : Row) (l : Linked) (rest : List Linked) → Within l.scope l.width → Wide l.scope l.width x
       → FitsScope (whole_scope (length (p ++ x)) rest) ((p ++ x) ++ y)
       → FitsScope (whole_scope (length p) (l ∷ rest)) (p ++ (x ++ y))
@@ -156,7 +156,7 @@ module _ (defs : List TableDef) (bag : Ref → List Row) (typed : IsTypedBag def
         ];
       }
 
-  -- a choice of one row of each chain fits the whole scope, behind so many columns
+  -- a row of the product, after the cells p, fits the whole scope moved by the length of p
   pub product_fits : (cs : List ChainTree) (all : List (List Row))
       → map_all (chain_rows bag) (map (λ (l : Linked). l.chain) (check_each (chain defs) cs).value) ≡ Some all
       → (p z : Row) → In z (product all)

@@ -1,4 +1,4 @@
--- A change of rows by what it does to each: it does not see their order.
+-- A change of rows by their fates does not depend on the order of the rows.
 use Rattle.std.proofs.Common.{◌≡◌, ℕ, ◌+◌, cond, List, [], ◌∷◌, ◌++◌, filter, flat_map, refl, sym, ap, ◌∙◌, arith}
 use Rattle.std.specs.Prelude.{not, Option, Some, None}
 use Rattle.std.specs.List.{sum_by}
@@ -14,26 +14,26 @@ use Rattle.tql_spec.proofs.FaultBags.{first_by_bag}
 use Rattle.tql_spec.proofs.MappedBags.{lack_of, none_lacks, some_lacks}
 use Rattle.tql_spec.proofs.Steady.{front_is}
 
--- ---- what is weighed of one row
+-- ---- weights of one row
 
--- the rows that one row leaves
+-- the weight of the rows that a row becomes
 abbrev pub left_of : (Stamped → ℕ) → Stamped → Option Fate → ℕ
 left_of w r None = 0
 left_of w r (Some Untouched) = w r
 left_of w r (Some (Replaced new)) = sum_by w new
 
--- the new rows among them
+-- the weight of the new rows among them
 abbrev pub new_of : (Stamped → ℕ) → Option Fate → ℕ
 new_of w None = 0
 new_of w (Some Untouched) = 0
 new_of w (Some (Replaced new)) = sum_by w new
 
--- one for a row that is touched
+-- 1 for a row that is touched, else 0
 abbrev touch_of : Option Fate → ℕ
 touch_of o = cond (goes o) 1 0
 
 module _ (f : Stamped → Option Fate) where
-  -- what is weighed of the rows after a change is weighed of each row
+  -- the weight of the rows after a change is a sum over the rows before it
   pub left_total : (w : Stamped → ℕ) (rows : List Stamped) (fates : List Fate) → map_all f rows ≡ Some fates
       → sum_by w (after_fates rows fates) ≡ sum_by (λ r. left_of w r (f r)) rows
   left_total w [] fates e = refl
@@ -50,7 +50,7 @@ module _ (f : Stamped → Option Fate) where
       by_fate Untouched ys ih = sum_by-cons w x (after_fates rows ys) ∙ ap (λ n. w x + n) ih
       by_fate (Replaced new) ys ih = sum_by-append w new (after_fates rows ys) ∙ ap (λ n. sum_by w new + n) ih
 
-  -- so are the new rows
+  -- the weight of the new rows is a sum over the rows before the change
   pub new_total : (w : Stamped → ℕ) (rows : List Stamped) (fates : List Fate) → map_all f rows ≡ Some fates
       → sum_by w (new_rows fates) ≡ sum_by (λ r. new_of w (f r)) rows
   new_total w [] fates e = let q : [] ≡ fates = cc in ap (λ fs. sum_by w (new_rows fs)) (sym q)
@@ -66,7 +66,7 @@ module _ (f : Stamped → Option Fate) where
       by_fate Untouched ys ih = ih ∙ omega arith
       by_fate (Replaced new) ys ih = sum_by-append w new (new_rows ys) ∙ ap (λ n. sum_by w new + n) ih
 
-  -- so is the count
+  -- the count of touched rows is a sum over the rows before the change
   touch_total : (rows : List Stamped) (fates : List Fate) → map_all f rows ≡ Some fates
       → touched_count fates ≡ sum_by (λ r. touch_of (f r)) rows
   touch_total [] fates e = let q : [] ≡ fates = cc in ap touched_count (sym q)
@@ -84,7 +84,7 @@ module _ (f : Stamped → Option Fate) where
 
   -- ---- rows in another order
 
-  -- the outcomes of two orders are the same
+  -- the outcomes for two orders of the rows are the same
   same_outcome : (d : TableDef) (rows others : List Stamped) → SameBag rows others → (o p : Option (List Fate))
       → map_all f rows ≡ o → map_all f others ≡ p → SameOutcome (outcome_of d rows o) (outcome_of d others p)
   same_outcome d rows others h None None e k = record { rows = h; count = refl; fault = refl }
@@ -110,14 +110,14 @@ module _ (f : Stamped → Option Fate) where
 
   -- ---- rows by parts
 
-  -- a row is kept, or its new rows come
+  -- a row is kept, or its new rows replace it
   one_part : (w : Stamped → ℕ) (r : Stamped) (o : Option Fate) → (o ≡ None → ⊥)
       → left_of w r o ≡ cond (not (goes o)) (w r) 0 + new_of w o
   one_part w r None n = absurd (n refl)
   one_part w r (Some Untouched) n = omega arith
   one_part w r (Some (Replaced new)) n = omega arith
 
-  -- what is weighed of all rows, by parts
+  -- the weight of all rows after a change: kept rows and new rows
   both_total : (w : Stamped → ℕ) (rows : List Stamped) (fates : List Fate) → map_all f rows ≡ Some fates
       → sum_by (λ r. left_of w r (f r)) rows
       ≡ sum_by (λ r. cond (not (goes (f r))) (w r) 0) rows + sum_by (λ r. new_of w (f r)) rows
@@ -152,13 +152,13 @@ module _ (f : Stamped → Option Fate) where
     );
   }
 
--- a change of the rows in any order
+-- the law: a change does not depend on the order of the rows
 pub no_order : ChangesKeepNoOrder
 no_order d m rows others portion work conds h =
     let f : Stamped → Option Fate = λ r. fate d m portion work conds (shown d r) in
     same_outcome f d rows others h (map_all f rows) (map_all f others) refl refl
 
--- the rows that stay, and the new ones
+-- the law: the rows after a change are the untouched rows and the new ones
 pub by_parts : ChangesByParts
 by_parts d m rows portion work conds fates e =
     let f : Stamped → Option Fate = λ r. fate d m portion work conds (shown d r) in

@@ -15,7 +15,7 @@ use Rattle.tql_spec.specs.TypingLaws.{IsTypedBag, IsTypedChange}
 use Rattle.tql_spec.proofs.Steady.{front_is}
 use Rattle.tql_spec.proofs.RowChanges.{AllGood, insert_good, modify_good}
 
--- the values of expressions that give kinds
+-- the values of expressions that give kinds are of these kinds
 given_kinds : (ks : List Kind) (es : List Expr) → GiveKinds ks es → (values : Row)
     → map_all (eval [] []) es ≡ Some values
     → AreOfKinds ks values
@@ -26,7 +26,7 @@ given_kinds (k ∷ ks) (x ∷ es) h values e =
     let f = front_is (eval [] [] x) (map_all (eval [] []) es) values e in
     subst (AreOfKinds (k ∷ ks)) (sym f.whole) (h.0 f.head f.one, given_kinds ks es h.1 f.tail f.more)
 
--- the tuples of an INSERT
+-- the tuples of an INSERT have values of the kinds
 tuples_kinds : (ks : List Kind) (tuples : List (List Expr))
     → ((tuple : List Expr) → In tuple tuples → GiveKinds ks tuple)
     → (rows : List Row) → map_all (map_all (eval [] [])) tuples ≡ Some rows → (values : Row) → In values rows
@@ -40,7 +40,7 @@ tuples_kinds ks (x ∷ tuples) h rows e values m =
       | inr i ↦ tuples_kinds ks tuples (λ y n. h y (inr n)) f.tail f.more values i
     ]
 
--- each change without a fault: the law of kinds in runs stands on this
+-- each change without a fault; used by the law of kinds in runs
 pub change_good : (s : State) (m : ℤ) (copy : Copy) (c : Change)
     → IsTypedDefinition (table_at s.definitions (changed_table c))
     → IsTypedBag s.definitions (bag_of s) → IsTypedChange s.definitions c

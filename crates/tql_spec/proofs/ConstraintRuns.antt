@@ -24,13 +24,13 @@ use Rattle.tql_spec.proofs.Constraints.{holds_empty, holds_more, holds_less}
 
 -- ---- DROP TABLE
 
--- a table that is dropped is one that no reference names
+-- the table has a name, and no reference names it
 record IsDropped (defs : List TableDef) (t : ℕ) : Type 0 where
   name : Name
   there : place_of name defs ≡ Some t
   free : is_referenced name defs ≡ false
 
--- DROP TABLE without a fault drops such a table
+-- DROP TABLE without a fault drops a table of this form
 dropped : (defs : List TableDef) (st : Statement) → (bind defs st).faults ≡ [] → (t : ℕ)
     → (bind defs st).value ≡ DropTable t → IsDropped defs t
 dropped defs (DropTree n) e t q = by_place (place_of n defs) refl e q
@@ -63,11 +63,11 @@ dropped defs (CloseTree n) e t q = absurd (cc)
 
 -- ---- copies
 
--- keys and references hold in each of some copies
+-- keys and references hold in each of these copies
 abbrev EachHolds : List TableDef → List Entry → Type 0
 EachHolds defs es = AllByRecursion (λ (e : Entry). CopyHolds defs e.copy) es
 
--- what is done to every copy, for CREATE and DROP
+-- they hold after the same change of every copy, for CREATE and DROP
 holds_in_each : (g : Copy → Copy) (defs new : List TableDef)
     → ((copy : Copy) → CopyHolds defs copy → CopyHolds new (g copy)) → (es : List Entry) → EachHolds defs es
     → EachHolds new (map (λ (e : Entry). record e { copy = g e.copy }) es)
@@ -88,12 +88,12 @@ newest_holds : (defs : List TableDef) (es : List Entry) → EachHolds defs es �
 newest_holds defs [] h = holds_empty defs
 newest_holds defs (e ∷ es) h = h.0
 
--- a test whose contrary fails
+-- a test is true if its negation is false
 not_not : (b : Bool) → not b ≡ false → b ≡ true
 not_not true e = refl
 not_not false e = cc
 
--- a change whose result no fault of keys or references refuses
+-- if a change has no fault by keys and references, they hold in its copy
 changed_holds : (defs : List TableDef) (copy : Copy) → length copy ≡ length defs → constraint_faults defs copy ≡ []
     → CopyHolds defs copy
 changed_holds defs copy n e =
@@ -110,7 +110,7 @@ changed_holds defs copy n e =
 
 -- ---- statements and runs
 
--- each effect keeps keys and references
+-- each effect preserves keys and references
 effect_holds : (base : State) (defs : List TableDef) (history : List Entry) (next : ℤ) (begun : Option Entry)
     (b : Bound)
     → state_faults (state base defs history next begun) (class_of b) ≡ []
@@ -155,13 +155,13 @@ effect_holds base defs history next (Some w) (ChangeRows c) e g h =
 effect_holds base defs history next begun (AnswerQuery q) e g h =
     asked_stays ConstraintsHold (state base defs history next begun) q _ h
 
--- each statement that is taken keeps them
+-- each accepted statement preserves them
 keeps_constraints : EffectKeeps ConstraintsHold
 keeps_constraints s t k h =
     effect_holds s s.definitions s.history s.next s.transaction (bind s.definitions t).value k.free
     (λ i q. dropped s.definitions t k.sound i q) h
 
--- so does a run
+-- the law: a run preserves them
 pub runs_keep_constraints : RunsKeepConstraints
 runs_keep_constraints old new pieces replies h r =
     run_keeps ConstraintsHold keeps_constraints old pieces replies new r h

@@ -1,4 +1,4 @@
--- Keys and references of a whole copy: with one table more, with one less, and before any commit.
+-- Keys and references of a whole copy: with one more table, with one less, and before any commit.
 use Rattle.std.proofs.Common.{◌≡◌, ◌<◌, refl, sym, ap, subst, ◌∙◌, ℕ, ◌+◌, zero, suc, Bool, true, false, List, [], ◌∷◌}
 use Rattle.std.proofs.Common.{◌++◌, map, length, inl, inr, arith, length-append}
 use Rattle.std.specs.Prelude.{◌&&◌, ◌||◌, remove, Option, Some, None, if◌then◌else◌}
@@ -24,27 +24,27 @@ use Rattle.tql_spec.proofs.Copies.{rows_more, skip, removed_at, length_removed}
 
 -- ---- tests over lists
 
--- two tests that hold
+-- the conjunction of two true tests is true
 pub and_true : (a b : Bool) → a ≡ true → b ≡ true → a && b ≡ true
 and_true true b e f = f
 and_true false b e f = e
 
--- a test that always holds
+-- a test that always passes, passes for a list
 all_pass : {A : Type 0} (p : A → Bool) (xs : List A) → ((x : A) → p x ≡ true) → list_all p xs ≡ true
 all_pass p [] h = refl
 all_pass p (x ∷ xs) h = and_true (p x) (list_all p xs) (h x) (all_pass p xs h)
 
--- two tests that agree
+-- two tests that always agree, agree on a list
 all_same : {A : Type 0} (p q : A → Bool) (xs : List A) → ((x : A) → p x ≡ q x) → list_all p xs ≡ list_all q xs
 all_same p q [] h = refl
 all_same p q (x ∷ xs) h = ap (λ b. b && list_all p xs) (h x) ∙ ap (λ b. q x && b) (all_same p q xs h)
 
--- no part of a false OR holds
+-- both parts of a false OR are false
 neither : (a b : Bool) → a || b ≡ false → (a ≡ false) × (b ≡ false)
 neither false b e = (refl, e)
 neither true b e = absurd (cc)
 
--- two tests that agree where a third fails
+-- two tests that agree where a third fails, agree on a list on which the third always fails
 all_where : {A : Type 0} (r p q : A → Bool) (xs : List A) → list_any r xs ≡ false
     → ((x : A) → r x ≡ false → p x ≡ q x) → list_all p xs ≡ list_all q xs
 all_where r p q [] e h = refl
@@ -52,7 +52,7 @@ all_where r p q (x ∷ xs) e h =
     let n = neither (r x) (list_any r xs) e in
     ap (λ b. b && list_all p xs) (h x n.0) ∙ ap (λ b. q x && b) (all_where r p q xs n.1 h)
 
--- no member of a list passes where none does
+-- if no member passes a test, a given member does not
 none_in : {A : Type 0} (r : A → Bool) (xs : List A) (x : A) → list_any r xs ≡ false → In x xs → r x ≡ false
 none_in r [] x e m = absurd m
 none_in r (y ∷ xs) x e (inl q) = ap r q ∙ (neither (r y) (list_any r xs) e).0
@@ -66,7 +66,7 @@ same_text-self n = ap is_eq (tied_itself nat_list_cmp_total n)
 pub same_text-is : (n m : Name) → same_text n m ≡ true → n ≡ m
 same_text-is n m e = exact_bytes n m ((Equal-is (slice_cmp nat_cmp n m)).0 e)
 
--- a name that a second one is not, is not a third that the second is
+-- if n and m are the same name and n differs from p, p differs from m
 other_name : (n p m : Name) → same_text n m ≡ true → same_text n p ≡ false → same_text p m ≡ false
 other_name n p m e f = by_bool (same_text p m)
     (λ h. let k : n ≡ p = same_text-is n m e
@@ -78,7 +78,7 @@ other_name n p m e f = by_bool (same_text p m)
 
 -- ---- each table
 
--- tests that agree on the tables, or one that is true wherever the other is
+-- a test that implies another on each table implies it on the copy
 each_gives : (test other : TableDef → List Row → Bool) (defs : List TableDef) (copy : Copy)
     → ((d : TableDef) → In d defs → (rows : List Row) → test d rows ≡ true → other d rows ≡ true)
     → each_table test defs copy ≡ true → each_table other defs copy ≡ true
@@ -89,7 +89,7 @@ each_gives test other (d ∷ defs) (rows ∷ copy) h e =
     and_true (other d (shown_rows d rows)) (each_table other defs copy) (h d (inl refl) (shown_rows d rows) b.0)
     (each_gives test other defs copy (λ x m. h x (inr m)) b.1)
 
--- one table more, without rows
+-- the test still passes with one more table, without rows
 each_more : (test : TableDef → List Row → Bool) (defs : List TableDef) (copy : Copy) (d : TableDef)
     → length copy ≡ length defs → test d [] ≡ true
     → each_table test defs copy ≡ true → each_table test (defs ++ d ∷ []) (copy ++ [] ∷ []) ≡ true
@@ -101,7 +101,7 @@ each_more test (x ∷ defs) (rows ∷ copy) d n t e =
     and_true (test x (shown_rows x rows)) (each_table test (defs ++ d ∷ []) (copy ++ [] ∷ [])) b.0
     (each_more test defs copy d (omega arith) t b.1)
 
--- one table less
+-- the test still passes with one table removed
 each_less : (test : TableDef → List Row → Bool) (defs : List TableDef) (copy : Copy) (k : ℕ)
     → each_table test defs copy ≡ true → each_table test (remove defs k) (remove copy k) ≡ true
 each_less test [] copy zero e = refl
@@ -118,7 +118,7 @@ each_less test (d ∷ defs) (rows ∷ copy) (suc k) e =
     and_true (test d (shown_rows d rows)) (each_table test (remove defs k) (remove copy k)) b.0
     (each_less test defs copy k b.1)
 
--- no rows in any table
+-- a test that passes for no rows passes for a copy without rows
 each_empty : (test : TableDef → List Row → Bool) (defs : List TableDef) → ((d : TableDef) → test d [] ≡ true)
     → each_table test defs (map (λ d. []) defs) ≡ true
 each_empty test [] h = refl
@@ -136,11 +136,11 @@ abbrev pub reference_test : List TableDef → Copy → TableDef → List Row →
 reference_test defs copy d rows =
     list_all (λ (f : Reference). reference_to defs copy d rows f (place_of f.parent defs)) d.references
 
--- keys hold of no rows
+-- keys hold if there are no rows
 keys_of_none : (d : TableDef) → key_test d [] ≡ true
 keys_of_none d = all_pass (key_holds d []) d.keys (λ k. refl)
 
--- so do references
+-- references hold if there are no rows
 references_of_none : (defs : List TableDef) (copy : Copy) (d : TableDef) → reference_test defs copy d [] ≡ true
 references_of_none defs copy d = all_pass
     (λ (f : Reference). reference_to defs copy d [] f (place_of f.parent defs)) d.references
@@ -150,7 +150,7 @@ references_of_none defs copy d = all_pass
     by_place f None = refl
     by_place f (Some t) = refl
 
--- before any commit
+-- keys and references hold before any commit
 pub holds_empty : (defs : List TableDef) → CopyHolds defs (map (λ d. []) defs)
 holds_empty defs = record {
   as_many = length-map defs _;
@@ -159,16 +159,16 @@ holds_empty defs = record {
       (references_of_none defs (map (λ d. []) defs));
 }
 
--- ---- one table more
+-- ---- one more table
 
--- where a name stands among the definitions with one more at the end
+-- the index of a name among the definitions, with one more definition at the end
 data Place (p : Name) (defs : List TableDef) (new : TableDef) : Type 0 where
   Found : (i : ℕ) → i < length defs → place_of p defs ≡ Some i → place_of p (defs ++ new ∷ []) ≡ Some i
       → Place p defs new
   Last : place_of p defs ≡ None → place_of p (defs ++ new ∷ []) ≡ Some (length defs) → Place p defs new
   Nowhere : place_of p defs ≡ None → place_of p (defs ++ new ∷ []) ≡ None → Place p defs new
 
--- a name is found where it was, or is the new table's
+-- one of these cases always holds
 place_more : (p : Name) (defs : List TableDef) (new : TableDef) → Place p defs new
 place_more p [] new = by_bool (same_text p new.name)
     (λ e. Last refl (ap (λ b. if b then Some 0 else None) e))
@@ -190,7 +190,7 @@ place_more p (d ∷ defs) new = by_bool (same_text p d.name)
     further e (Last q r) = Last (old e q) (all e r)
     further e (Nowhere q r) = Nowhere (old e q) (all e r)
 
--- where there is no parent row, it makes no difference of which table there is none
+-- with no parent rows, the definition of the parent does not matter
 no_parents : (d parent other : TableDef) (f : Reference) (rows : List Row)
     → reference_holds d parent f [] rows ≡ reference_holds d other f [] rows
 no_parents d parent other f rows = all_same (is_met d parent f []) (is_met d other f []) rows
@@ -200,18 +200,18 @@ no_parents d parent other f rows = all_same (is_met d parent f []) (is_met d oth
     by_sort r true = refl
     by_sort r false = refl
 
--- a copy has no rows beyond its tables
+-- a copy has no rows for an index beyond its tables
 no_rows_there : (defs : List TableDef) (copy : Copy) → length copy ≡ length defs → rows_in copy (length defs) ≡ []
 no_rows_there [] [] n = refl
 no_rows_there [] (rows ∷ copy) n = absurd (omega arith)
 no_rows_there (d ∷ defs) [] n = absurd (omega arith)
 no_rows_there (d ∷ defs) (rows ∷ copy) n = no_rows_there defs copy (omega arith)
 
--- a reference to a table with these rows
+-- whether a reference holds, with these parent rows
 abbrev to_rows : TableDef → TableDef → Reference → List Stamped → List Row → Bool
 to_rows d parent f parents rows = reference_holds d parent f (shown_rows parent parents) rows
 
--- a reference holds as before where there is one table more
+-- one more table does not change whether a reference holds
 reference_more : (defs : List TableDef) (copy : Copy) (new : TableDef) → length copy ≡ length defs
     → (d : TableDef) (rows : List Row) (f : Reference)
     → reference_to (defs ++ new ∷ []) (copy ++ [] ∷ []) d rows f
@@ -237,7 +237,7 @@ reference_more defs copy new n d rows f = at_place (place_more f.parent defs new
         ap (reference_to (defs ++ new ∷ []) (copy ++ [] ∷ []) d rows f) r
         ∙ sym (ap (reference_to defs copy d rows f) q)
 
--- keys and references hold with one table more, which is empty
+-- keys and references hold with one more table that is empty
 pub holds_more : (defs : List TableDef) (new : TableDef) (copy : Copy) → CopyHolds defs copy
     → CopyHolds (defs ++ new ∷ []) (copy ++ [] ∷ [])
 holds_more defs new copy h =
@@ -251,29 +251,29 @@ holds_more defs new copy h =
           ∙ e) h.references);
     }
 
--- ---- one table less
+-- ---- one table removed
 
--- the place before a table was removed
+-- the index before the removal of the table at k, from its index after it
 abbrev skipped : ℕ → Option ℕ → Option ℕ
 skipped k None = None
 skipped k (Some i) = Some (skip k i)
 
--- one place further, past a place left out
+-- passing a removed index and taking the next index can be exchanged
 next_skipped : (k : ℕ) (o : Option ℕ) → next_place (skipped k o) ≡ skipped (suc k) (next_place o)
 next_skipped k None = refl
 next_skipped k (Some i) = refl
 
--- past the first
+-- passing index 0 is taking the next index
 next_first : (o : Option ℕ) → next_place o ≡ skipped 0 o
 next_first None = refl
 next_first (Some i) = refl
 
--- the place of the table before it
+-- an index that is the next one has one before it
 before_it : (o : Option ℕ) (t : ℕ) → next_place o ≡ Some t → (k : ℕ) × (o ≡ Some k) × (t ≡ suc k)
 before_it None t e = absurd (cc)
 before_it (Some i) t e = (i, refl, cc)
 
--- another name stands where it stood, but for the table removed
+-- the index of another name before the removal of a table, from its index after it
 place_less : (p n : Name) (defs : List TableDef) (t : ℕ) → place_of n defs ≡ Some t → same_text n p ≡ false
     → place_of p defs ≡ skipped t (place_of p (remove defs t))
 place_less p n [] t e h = absurd (cc)
@@ -297,7 +297,7 @@ place_less p n (d ∷ defs) t e h = by_bool (same_text n d.name)
         ∙ next_skipped k (place_of p (remove defs k))
         ∙ sym (ap (λ c. skipped (suc k) (if c then Some 0 else next_place (place_of p (remove defs k)))) b))
 
--- a reference holds as before without a table that it does not name
+-- the removal of a table that a reference does not name does not change whether the reference holds
 reference_less : (defs : List TableDef) (copy : Copy) (n : Name) (t : ℕ) → place_of n defs ≡ Some t
     → (d : TableDef) (rows : List Row) (f : Reference) → same_text n f.parent ≡ false
     → reference_to (remove defs t) (remove copy t) d rows f
@@ -312,7 +312,7 @@ reference_less defs copy n t e d rows f h = at_place (place_of f.parent (remove 
         ap (λ (p : TableDef). to_rows d p f (rows_in (remove copy t) i) rows) (removed_at defs t i no_table)
         ∙ ap (λ xs. to_rows d (table_at defs (skip t i)) f xs rows) (removed_at copy t i [])
 
--- a table that no reference names
+-- keys and references hold after the removal of a table that no reference names
 pub holds_less : (defs : List TableDef) (copy : Copy) (n : Name) (t : ℕ) → place_of n defs ≡ Some t
     → is_referenced n defs ≡ false → CopyHolds defs copy → CopyHolds (remove defs t) (remove copy t)
 holds_less defs copy n t e free h = record {

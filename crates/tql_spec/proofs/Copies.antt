@@ -21,20 +21,20 @@ use Rattle.tql_spec.proofs.InOrder.{state}
 
 -- ---- the rows of one table
 
--- one more table, empty
+-- one more empty table does not change the rows of a table
 pub rows_more : (copy : Copy) (t : ℕ) → rows_in (copy ++ [] ∷ []) t ≡ rows_in copy t
 rows_more [] zero = refl
 rows_more [] (suc t) = refl
 rows_more (rows ∷ copy) zero = refl
 rows_more (rows ∷ copy) (suc t) = rows_more copy t
 
--- where an element stood before one at place k was removed
+-- the index before the removal of the element at k, from the index after it
 abbrev pub skip : ℕ → ℕ → ℕ
 skip zero i = suc i
 skip (suc k) zero = zero
 skip (suc k) (suc i) = suc (skip k i)
 
--- an element of a list without one stands where it stood, or one place before
+-- an element after the removal, by its index before it
 pub removed_at : {X : Type 0} (xs : List X) (k i : ℕ) (d : X) → get_or (remove xs k) i d ≡ get_or xs (skip k i) d
 removed_at [] zero i d = refl
 removed_at [] (suc k) zero d = refl
@@ -43,7 +43,7 @@ removed_at (x ∷ xs) zero i d = refl
 removed_at (x ∷ xs) (suc k) zero d = refl
 removed_at (x ∷ xs) (suc k) (suc i) d = removed_at xs k i d
 
--- other rows of one table
+-- after the rows of table k are replaced: a table has its old rows, or it is table k and has the new ones
 pub rows_set : (copy : Copy) (k : ℕ) (rows : List Stamped) (t : ℕ)
     → (rows_in (slice_set copy k rows) t ≡ rows_in copy t) ⊎ ((t ≡ k) × (rows_in (slice_set copy k rows) t ≡ rows))
 rows_set [] k rows t = inl refl
@@ -59,7 +59,7 @@ no_rows [] t = refl
 no_rows (d ∷ defs) zero = refl
 no_rows (d ∷ defs) (suc t) = no_rows defs t
 
--- a copy that a horizon leaves was there
+-- a copy that a horizon leaves is one of the copies
 pub in_pruned : (h : ℤ) (x : Entry) (es : List Entry) → In x (pruned h es) → In x es
 in_pruned h x [] m = m
 in_pruned h x (e ∷ es) (inl q) = inl q
@@ -69,7 +69,7 @@ in_pruned h x (e ∷ es) (inr m) = inr (either (int_le e.moment h) (in_pruned h 
     either true k n = absurd n
     either false k n = k n
 
--- so is one of those, or the one in a transaction
+-- the same with a transaction's copy in front
 pub in_entries : (h : ℤ) (x : Entry) (first es : List Entry) → In x (first ++ pruned h es) → In x (first ++ es)
 in_entries h x first es m = elim (in_either x first (pruned h es) m) [
   | inl i ↦ in_left x first es i
@@ -78,7 +78,7 @@ in_entries h x first es m = elim (in_either x first (pruned h es) m) [
 
 -- ---- copies fit the definitions
 
--- lists of one length without one element each are of one length
+-- removing the element at k from lists of equal length leaves lists of equal length
 pub length_removed : {X Y : Type 0} (xs : List X) (ys : List Y) (k : ℕ) → length xs ≡ length ys
     → length (remove xs k) ≡ length (remove ys k)
 length_removed [] [] zero e = refl
@@ -88,13 +88,13 @@ length_removed (x ∷ xs) [] k e = absurd (omega arith)
 length_removed (x ∷ xs) (y ∷ ys) zero e = omega arith
 length_removed (x ∷ xs) (y ∷ ys) (suc k) e = ap suc (length_removed xs ys k (omega arith))
 
--- the newest copy has rows for each definition, for what stands on it
+-- the newest copy has rows for each definition
 pub newest_fits : (defs : List TableDef) (es : List Entry) → ((e : Entry) → In e es → length e.copy ≡ length defs)
     → length (newest_copy defs es) ≡ length defs
 newest_fits defs [] f = length-map defs _
 newest_fits defs (e ∷ es) f = f e (inl refl)
 
--- what is done to every copy, for CREATE and DROP
+-- copies fit after the same change of every copy, for CREATE and DROP
 each_fits : (g : Copy → Copy) (defs new : List TableDef) (es : List Entry)
     → ((e : Entry) → In e es → length e.copy ≡ length defs)
     → ((copy : Copy) → length copy ≡ length defs → length (g copy) ≡ length new)
@@ -103,13 +103,13 @@ each_fits g defs new es f k e m =
     let i = in_image (λ (x : Entry). record x { copy = g x.copy }) e es m in ap (λ (x : Entry). length x.copy) i.2
     ∙ k i.0.copy (f i.0 i.1)
 
--- one more entry
+-- copies fit with one more entry in front
 first_fits : (e : Entry) (es : List Entry) (n : ℕ) → length e.copy ≡ n → ((x : Entry) → In x es → length x.copy ≡ n)
     → (x : Entry) → In x (e ∷ es) → length x.copy ≡ n
 first_fits e es n h k x (inl q) = ap (λ (y : Entry). length y.copy) q ∙ h
 first_fits e es n h k x (inr m) = k x m
 
--- each effect keeps the number of tables in copies
+-- each effect preserves that copies fit
 pub effect_fits : (base : State) (defs : List TableDef) (history : List Entry) (next : ℤ) (begun : Option Entry)
     (b : Bound)
     → state_faults (state base defs history next begun) (class_of b) ≡ []
@@ -146,6 +146,6 @@ effect_fits base defs history next (Some w) (ChangeRows c) e f =
 effect_fits base defs history next begun (AnswerQuery q) e f =
     asked_stays CopiesFit (state base defs history next begun) q _ f
 
--- each statement that is taken keeps it
+-- each accepted statement preserves it
 pub keeps_fit : EffectKeeps CopiesFit
 keeps_fit s t k f = effect_fits s s.definitions s.history s.next s.transaction (bind s.definitions t).value k.free f

@@ -1,4 +1,4 @@
--- What CREATE TABLE defines has periods of points; and the points of a row's own period.
+-- The periods of a created table are of points; the columns of a row's application period hold its ends.
 use Rattle.std.proofs.Common.{◌≡◌, ◌<◌, refl, sym, ap, subst, ◌∙◌, ℕ, zero, suc, Bool, true, false, List, [], ◌∷◌, ◌++◌}
 use Rattle.std.proofs.Common.{map, get_or, length, arith}
 use Rattle.std.specs.Prelude.{◌||◌, not, Option, Some}
@@ -25,7 +25,7 @@ use Rattle.tql_spec.proofs.RowKinds.{cell_kind}
 
 -- ---- kinds
 
--- two kinds that are one by their test
+-- kinds that the test finds equal are equal
 pub same_kind_is : (k l : Kind) → same_kind k l ≡ true → k ≡ l
 same_kind_is Ints Ints e = refl
 same_kind_is Texts Texts e = refl
@@ -44,22 +44,22 @@ same_kind_is Moments Ints e = absurd (cc)
 same_kind_is Moments Texts e = absurd (cc)
 same_kind_is Moments Days e = absurd (cc)
 
--- what is not false is true
+-- a test whose negation is false is true
 pub not_false : (b : Bool) → not b ≡ false → b ≡ true
 not_false true e = refl
 not_false false e = absurd (cc)
 
--- no part of a false OR holds
+-- the first part of a false OR is false
 pub or_first_false : (a b : Bool) → a || b ≡ false → a ≡ false
 or_first_false false b e = refl
 or_first_false true b e = absurd (cc)
 
--- nor the second
+-- the second part of a false OR is false
 pub or_second_false : (a b : Bool) → a || b ≡ false → b ≡ false
 or_second_false false b e = e
 or_second_false true b e = absurd (cc)
 
--- the kinds of the columns defined are those written
+-- the kinds of the defined columns are the written ones
 kinds_written : (implied : List Name) (cs : List ColumnTree)
     → map (λ (c : definition.Column). c.kind) (map (column implied) cs)
     ≡ map (λ (c : ColumnTree). kind_of_type c.type_name) cs
@@ -68,7 +68,7 @@ kinds_written implied (c ∷ cs) = ap (λ ks. kind_of_type c.type_name ∷ ks) (
 
 -- ---- the system period
 
--- its columns are of moments
+-- the columns of a system period without a fault are of moments
 system_kinds : (es : List Element) (p : PeriodPart) → (system_period es p).faults ≡ []
     → (kind_in es (system_period es p).value.start ≡ Moments) × (kind_in es (system_period es p).value.end ≡ Moments)
 system_kinds es p e =
@@ -92,7 +92,7 @@ system_kinds es p e =
           (not_false _ (or_second_false (not (same_kind (kind_in es s.value) Moments)) _ both)),
     )
 
--- of the first
+-- the same for the first of several system periods
 first_system : (es : List Element) (parts : List PeriodPart) → (check_each (system_period es) parts).faults ≡ []
     → (s : System) → first_of (check_each (system_period es) parts).value ≡ Some s
     → (kind_in es s.start ≡ Moments) × (kind_in es s.end ≡ Moments)
@@ -104,7 +104,7 @@ first_system es (p ∷ parts) e s q =
 
 -- ---- the application period
 
--- a column whose name is implied takes no null
+-- a column whose name is implied is required
 implied_required : (implied : List Name) (cs : List ColumnTree) (i : ℕ)
     → i < length (map (λ (c : ColumnTree). c.name) cs)
     → has_name (get_or (map (λ (c : ColumnTree). c.name) cs) i []) implied ≡ true
@@ -117,7 +117,7 @@ implied_required implied (c ∷ cs) zero l h = either c.required
     either false = h
 implied_required implied (c ∷ cs) (suc i) l h = implied_required implied cs i (omega arith) h
 
--- what an application period's columns are
+-- the columns of an application period are of one kind of points, and required
 record AreEnds (es : List Element) (implied : List Name) (a : Application) : Type 0 where
   kinds : are_ends (kind_in es a.start) (kind_in es a.end) ≡ true
   start : is_required (map (column implied) (columns_of es)) a.start ≡ true
@@ -166,7 +166,7 @@ first_application es (p ∷ parts) more e a q =
 
 -- ---- the table
 
--- CREATE TABLE without a fault
+-- CREATE TABLE without a fault gives a typed definition
 pub created_typed : (defs : List TableDef) (n : Name) (es : List Element) (versioned : Bool)
     → (create defs n es versioned).faults ≡ [] → IsTypedDefinition (create defs n es versioned).value
 created_typed defs n es versioned e =
@@ -198,7 +198,7 @@ created_typed defs n es versioned e =
 
 -- ---- points
 
--- a day, by its kind
+-- a value of the kind of days that is not null is a day
 day_is : (v : Datum) → IsOfKind (Some Days) v → is_null v ≡ false → v ≡ Day (point_of v)
 day_is Null h n = absurd (cc)
 day_is (Int x) h n = absurd (cc)
@@ -206,7 +206,7 @@ day_is (Text x) h n = absurd (cc)
 day_is (Day x) h n = refl
 day_is (Moment x) h n = absurd (cc)
 
--- a moment
+-- a value of the kind of moments that is not null is a moment
 moment_is : (v : Datum) → IsOfKind (Some Moments) v → is_null v ≡ false → v ≡ Moment (point_of v)
 moment_is Null h n = absurd (cc)
 moment_is (Int x) h n = absurd (cc)
@@ -219,7 +219,7 @@ of_column : (d : TableDef) (row : Row) (i : ℕ) (k : Kind) → AreOfKinds (kind
     → IsOfKind (Some k) (cell row i)
 of_column d row i k h e = subst (λ l. IsOfKind (Some l) (cell row i)) e (cell_kind (kinds_of d) row h i)
 
--- the ends of a row's application period are its points
+-- the law: the columns of a row's application period hold its ends
 pub own_points : OwnPeriodsArePoints
 own_points = record {
   days = λ d a row q h n. (

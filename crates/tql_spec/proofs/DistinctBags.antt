@@ -1,4 +1,4 @@
--- Rows without their repeats, in any order.
+-- Removing repeated rows does not depend on the order of the rows.
 use Rattle.std.proofs.Common.{◌≡◌, ℕ, ◌+◌, Bool, true, false, cond, List, [], ◌∷◌, filter, refl, sym, ap, ◌∙◌, arith}
 use Rattle.std.proofs.Common.{subst, inl, inr}
 use Rattle.std.specs.Prelude.{not}
@@ -12,7 +12,7 @@ use Rattle.tql_spec.proofs.Members.{by_bool, same_row-self, same_row-is}
 use Rattle.tql_spec.proofs.MemberLists.{in_kept}
 use Rattle.tql_spec.proofs.BagFolds.{folded, AreSteps, same_fold}
 
--- one more row, and no other of its like
+-- the row in front of the rows that differ from it
 abbrev more_distinct : Row → List Row → List Row
 more_distinct r rows = r ∷ filter (λ s. not (same_row r s)) rows
 
@@ -23,7 +23,7 @@ distinct_fold (r ∷ rows) = ap (more_distinct r) (distinct_fold rows)
 same_front : (r : Row) (xs ys : List Row) → SameBag xs ys → SameBag (r ∷ xs) (r ∷ ys)
 same_front r xs ys h = record { totals = λ w. omega (arith, sum_by-cons w r xs, sum_by-cons w r ys, h.totals w) }
 
--- a row that is not another
+-- a row that differs from another, in either direction
 differs_back : (x y : Row) → same_row x y ≡ false → same_row y x ≡ false
 differs_back x y e = by_bool (same_row y x)
     (λ k. absurd (apart (subst (λ z. same_row x z ≡ false) (same_row-is y x k) e)))
@@ -37,7 +37,7 @@ kept_front : (x y : Row) (rows : List Row) → same_row x y ≡ false
 kept_front x y rows e =
     let others : List Row = filter (λ s. not (same_row x s)) rows in ap (λ b. cond (not b) (y ∷ others) others) e
 
--- two tests in either order
+-- two filters can be exchanged
 twice : (p q : Row → Bool) (w : Row → ℕ) (rows : List Row)
     → sum_by w (filter p (filter q rows)) ≡ sum_by w (filter q (filter p rows))
 twice p q w rows =
@@ -55,7 +55,7 @@ twice p q w rows =
     either false true n = refl
     either false false n = refl
 
--- two rows that differ, in either order
+-- the weight of two different rows in front of the others, as a sum
 two_rows : (x y : Row) (rows : List Row) (w : Row → ℕ) → same_row x y ≡ false
     → sum_by w (more_distinct x (more_distinct y rows))
     ≡ w x + (w y + sum_by w (filter (λ s. not (same_row x s)) (filter (λ s. not (same_row y s)) rows)))
@@ -90,14 +90,14 @@ distinct-steps = record {
   exchanged = exchanged;
 }
 
--- the rows without repeats are one bag
+-- the rows without repeats have the same bag
 pub distinct_same : (rows others : List Row) → SameBag rows others → SameBag (distinct_rows rows) (distinct_rows others)
 distinct_same rows others h =
     subst (λ z. SameBag z (distinct_rows others)) (sym (distinct_fold rows))
     (subst (λ z. SameBag (folded more_distinct [] rows) z) (sym (distinct_fold others))
     (same_fold same_row same_row-self same_row-is SameBag more_distinct distinct-steps [] rows others h))
 
--- and each of them is one of the rows
+-- each row without repeats is one of the rows
 pub in_distinct : (t : Row) (rows : List Row) → In t (distinct_rows rows) → In t rows
 in_distinct t [] m = m
 in_distinct t (r ∷ rows) (inl e) = inl e

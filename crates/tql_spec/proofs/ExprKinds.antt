@@ -30,23 +30,23 @@ use Rattle.tql_spec.proofs.Steady.{front_is}
 abbrev pub column_kinds : List Column → List Kind
 column_kinds cs = map (λ (c : Column). c.kind) cs
 
--- a row has values of a reference's kinds in its columns
+-- the row has values of the right kinds in the columns of a reference
 abbrev pub FitsKnown : Row → Known → Type 0
 FitsKnown row k = (i : ℕ) → i < length k.columns → IsOfKind (Some (kind_at k.columns i))
     (cell row (k.offset + i))
 
--- so for each reference in scope
+-- the row has them for each reference in scope
 pub record FitsScope (scope : List Known) (row : Row) : Type 0 where
   pub each : (k : Known) → In k scope → FitsKnown row k
 
--- what an expression gives on such rows is of its kind
+-- the value of an expression on rows like these is of its kind
 pub record Keeps (scope : List Known) (t : Typed) : Type 0 where
   pub of_kind : (group : List Row) (row : Row) → ((r : Row) → In r group → FitsScope scope r) → FitsScope scope row
       → (v : Datum) → eval group row t.expr ≡ Some v → IsOfKind t.kind v
 
 -- ---- values
 
--- what is calculated is a number or null
+-- a result of arithmetic is an integer
 exact_kind : (n : ℤ) (v : Datum) → exact n ≡ Some v → IsOfKind (Some Ints) v
 exact_kind n v e = by_fit (fits n) e
   where
@@ -68,7 +68,7 @@ calculated op (Text t) b v e = null_kind _ v e
 calculated op (Day d) b v e = null_kind _ v e
 calculated op (Moment m) b v e = null_kind _ v e
 
--- a value that was there before the next step
+-- if a sequence of two steps has a value, the first step has one
 pub after : {A B : Type 0} {P : Type 0} (o : Option A) (f : A → Option B) (b : B) → o >>= f ≡ Some b
     → ((a : A) → o ≡ Some a → f a ≡ Some b → P) → P
 after None f b e h = absurd (cc)
@@ -80,7 +80,7 @@ after (Some a) f b e h = h a refl e
 abbrev AllOf : Option Kind → List Datum → Type 0
 AllOf k vs = (v : Datum) → In v vs → IsOfKind k v
 
--- so is the least by any test
+-- the best value by any test is of the kind
 best_kind : (k : Option Kind) (better : Datum → Datum → Bool) (vs : List Datum) → AllOf k vs
     → IsOfKind k (best better vs)
 best_kind k better [] h = tt
@@ -92,7 +92,7 @@ best_kind k better (v ∷ w ∷ vs) h = either (better (best better (w ∷ vs)) 
     either true ih = ih
     either false ih = h v (inl refl)
 
--- the values over the rows of a group
+-- the values of an expression over the rows of a group are of the kind
 each_value : (k : Option Kind) (e : Expr) (group : List Row)
     → ((r : Row) → In r group → (v : Datum) → eval [] r e ≡ Some v → IsOfKind k v)
     → (vs : List Datum) → map_all (λ r. eval [] r e) group ≡ Some vs → AllOf k vs
@@ -104,11 +104,11 @@ each_value k e (r ∷ group) h vs q v m =
       | inr n ↦ each_value k e group (λ x i. h x (inr i)) f.tail f.more v n
     ]
 
--- a value that is one of the kind
+-- the same value is of the same kind
 given : (k : Option Kind) (x v : Datum) → IsOfKind k x → Some x ≡ Some v → IsOfKind k v
 given k x v h e = let same : x ≡ v = cc in subst (IsOfKind k) same h
 
--- an aggregate is a number, or of its operand's kind
+-- an aggregate is an integer or of its operand's kind
 aggregate_kind : (f : Function) (a : Typed) (vs : List Datum) → AllOf a.kind vs → (v : Datum)
     → bound.aggregate f vs ≡ Some v
     → IsOfKind (aggregate f a).value.kind v
@@ -118,7 +118,7 @@ aggregate_kind Sum a (x ∷ xs) h v e = exact_kind (total (x ∷ xs)) v e
 aggregate_kind Min a vs h v e = given a.kind _ v (best_kind a.kind _ vs h) e
 aggregate_kind Max a vs h v e = given a.kind _ v (best_kind a.kind _ vs h) e
 
--- only values that are there count
+-- the values that are not null are of the kind
 present_kind : (k : Option Kind) (vs : List Datum) → AllOf k vs → AllOf k (present vs)
 present_kind k vs h v m = h v (in_kept (λ x. not (is_null x)) v vs m).0
 
@@ -184,12 +184,12 @@ negative_keeps scope _ c = negation_keeps scope c.value
 
 -- ---- columns
 
--- a column of this number has values of its kind
+-- if the meaning of a name is a column, rows that fit the scope have values of its kind in it
 abbrev FitsThing : List Known → Thing → Type 0
 FitsThing scope (AColumn i c) = (row : Row) → FitsScope scope row → IsOfKind (Some c.kind) (cell row i)
 FitsThing scope (APeriod s e k) = Unit {0}
 
--- so do all that a list of columns has
+-- this holds for each column of a list with this name
 columns_fit : (scope : List Known) (n : Name) (o : ℕ) (cs : List Column)
     → ((row : Row) → FitsScope scope row → (i : ℕ) → i < length cs → IsOfKind (Some (kind_at cs i)) (cell row (o + i)))
     → (t : Thing) → In t (columns_named n o cs) → FitsThing scope t
@@ -224,7 +224,7 @@ periods_fit scope n o cs (a ∷ as') t m = elim
     here true (inr i) = absurd i
     here false i = absurd i
 
--- a member of lists joined is in one of them
+-- a member of the flattened list is in one of the lists
 pub in_flat : {X Y : Type 0} (f : X → List Y) (y : Y) (xs : List X) → In y (flat_map f xs)
     → (x : X) × In x xs × In y (f x)
 in_flat f y [] m = absurd m

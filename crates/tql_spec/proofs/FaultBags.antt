@@ -1,4 +1,4 @@
--- The first fault depends on which faults are there alone.
+-- The first fault depends only on the bag of faults.
 use Rattle.std.proofs.Common.{◌≡◌, ◌≤◌, ◌<◌, ℕ, Bool, true, false, cond, List, [], ◌∷◌, refl, sym, ap, subst, ◌∙◌}
 use Rattle.std.proofs.Common.{arith, inl, inr}
 use Rattle.std.specs.Prelude.{nat_lt, Option, Some, None, slice_get, if◌then◌else◌}
@@ -15,7 +15,7 @@ use Rattle.tql_spec.specs.Refusal.{first}
 use Rattle.tql_spec.proofs.Members.{by_bool, sum-zero, sum-least}
 use Rattle.tql_spec.proofs.FirstFaults.{none_first}
 
--- ---- a refusal by its place
+-- ---- refusals and their positions
 
 -- the refusals in the order of report
 abbrev reports : List Refusal
@@ -53,18 +53,18 @@ by_place DuplicateKey = refl
 by_place ReferenceNotMet = refl
 by_place OutOfMemory = refl
 
--- one place, one refusal
+-- refusals with the same position are equal
 pub one_place : (a b : Refusal) → place a ≡ place b → Some a ≡ Some b
 one_place a b e = sym (by_place a) ∙ ap (slice_get reports) e ∙ by_place b
 
--- ---- what the first is
+-- ---- the first fault
 
--- a fault that is there, and none of those there comes before it
+-- a is in the list, and no fault of the list comes before it in the order of report
 pub record IsFirst (a : Refusal) (xs : List Refusal) : Type 0 where
   pub there : In a xs
   pub least : (x : Refusal) → In x xs → place a ≤ place x
 
--- one more fault in front
+-- the first fault of a list with one more fault in front
 first_of_two : (x y : Refusal) (ys : List Refusal) (b : Bool) → nat_lt (place y) (place x) ≡ b → IsFirst y ys
     → IsFirst (if b then y else x) (x ∷ ys)
 first_of_two x y ys true e h = record {
@@ -79,7 +79,7 @@ first_of_two x y ys false e h = record {
   ];
 }
 
--- a fault with none behind it
+-- a fault alone is the first one
 alone : (x : Refusal) (ys : List Refusal) → ys ≡ [] → IsFirst x (x ∷ ys)
 alone x ys n = record {
   there = inl refl;
@@ -89,7 +89,7 @@ alone x ys n = record {
   ];
 }
 
--- by what is first behind it
+-- a fault in front of a list, by cases of the first fault of the list
 by_rest : (x : Refusal) (ys : List Refusal) (a : Refusal) (o : Option Refusal) → first ys ≡ o
     → ((y : Refusal) → first ys ≡ Some y → IsFirst y ys)
     → first (x ∷ ys) ≡ Some a → IsFirst a (x ∷ ys)
@@ -100,14 +100,14 @@ by_rest x ys a (Some y) k later e =
     let q : (if nat_lt (place y) (place x) then y else x) ≡ a = cc in
     subst (λ r. IsFirst r (x ∷ ys)) q (first_of_two x y ys (nat_lt (place y) (place x)) refl (later y k))
 
--- the first is so
+-- `first` gives a first fault in this sense
 pub first_is : (xs : List Refusal) (a : Refusal) → first xs ≡ Some a → IsFirst a xs
 first_is [] a e = absurd (cc)
 first_is (x ∷ ys) a e = by_rest x ys a (first ys) refl (λ y k. first_is ys y k) e
 
 -- ---- the first of a bag
 
--- one for a fault that comes before a place
+-- 1 for a fault before position n in the order of report, else 0
 abbrev ahead : ℕ → Refusal → ℕ
 ahead n x = cond (nat_lt (place x) n) 1 0
 
@@ -119,11 +119,11 @@ none_ahead xs a h = sum-zero (ahead (place a)) xs (λ x m. nothing x (nat_lt (pl
     nothing x true e l = absurd (grind (arith, nat_tests, e, l))
     nothing x false e l = refl
 
--- the first comes before all places behind it
+-- the first fault comes before each later position
 some_ahead : (xs : List Refusal) (a : Refusal) (n : ℕ) → IsFirst a xs → place a < n → 0 < sum_by (ahead n) xs
 some_ahead xs a n h l = grind (arith, nat_tests, l, sum-least (ahead n) a xs h.there)
 
--- the first of one list does not come after that of the other
+-- the first fault of one list does not come after that of another with the same bag
 not_behind : (xs ys : List Refusal) (a b : Refusal) → SameBag xs ys → IsFirst a xs → IsFirst b ys → place b ≤ place a
 not_behind xs ys a b h k l = by_bool (nat_lt (place a) (place b))
     (λ e. absurd (differ (grind (arith, nat_tests, e))))
@@ -132,11 +132,11 @@ not_behind xs ys a b h k l = by_bool (nat_lt (place a) (place b))
     differ : place a < place b → ⊥
     differ n = omega (arith, some_ahead xs a (place b) k n, h.totals (ahead (place b)), none_ahead ys b l)
 
--- no list with a member has the bag of one with none
+-- a list with a member does not have the bag of the empty list
 not_none : (ys : List Refusal) (b : Refusal) → SameBag [] ys → In b ys → ⊥
 not_none ys b h m = let l = sum-least (λ x. 1) b ys m in let t = h.totals (λ x. 1) in omega (arith, l, t)
 
--- the faults of two lists that differ in order alone have one first
+-- lists with the same bag have the same first fault
 pub first_by_bag : (xs ys : List Refusal) → SameBag xs ys → first xs ≡ first ys
 first_by_bag xs ys h = by_firsts (first xs) (first ys) refl refl
   where

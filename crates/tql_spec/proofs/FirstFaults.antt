@@ -1,4 +1,4 @@
--- The first fault of lists joined, and of statements that are bound.
+-- The first fault of joined lists, and of bound statements.
 use Rattle.std.specs.Prelude.{◌≡◌, refl, ℤ, Bool, true, false, nat_lt, List, [], ◌∷◌, ◌++◌, Option, Some, None, ◌⊎◌}
 use Rattle.std.proofs.Common.{sym, ap, ◌∙◌, arith, append-nil, inl, inr}
 use Rattle.std.proofs.lemmas.Bool.Decides.{nat_tests}
@@ -13,12 +13,12 @@ use Rattle.tql_spec.specs.Syntax.{OpenTree, ReadTree, CloseTree}
 use Rattle.tql_spec.specs.Binding.{bind, statement_class, or_bad_moment}
 use Rattle.tql_spec.specs.Run.{respond}
 
--- the first of two, where there is one
+-- the earlier of two faults, if there is one
 abbrev pub sooner : Option Refusal → Option Refusal → Option Refusal
 sooner None o = o
 sooner (Some a) o = Some (earlier a o)
 
--- of three, by their places
+-- taking the earlier of three faults is associative
 pick : (a b c : Refusal) (x y z : Bool) → nat_lt (place b) (place a) ≡ x → nat_lt (place c) (place b) ≡ y
     → nat_lt (place c) (place a) ≡ z
     → earlier a (Some (earlier b (Some c))) ≡ earlier (earlier a (Some b)) (Some c)
@@ -40,7 +40,7 @@ first_append [] ys = refl
 first_append (x ∷ xs) ys = ap (λ (o : Option Refusal). Some (earlier x o)) (first_append xs ys)
     ∙ behind x (first xs) (first ys)
 
--- one more fault is the first, or changes nothing
+-- one more fault is the first, or does not change the first
 pub one_more : (xs : List Refusal) (e : Refusal) (ys : List Refusal)
     → (first (xs ++ e ∷ ys) ≡ Some e) ⊎ (first (xs ++ e ∷ ys) ≡ first (xs ++ ys))
 one_more xs e ys = either (first xs) (first ys) (first_append xs (e ∷ ys)) (first_append xs ys)
@@ -83,12 +83,12 @@ one_more xs e ys = either (first xs) (first ys) (first_append xs (e ∷ ys)) (fi
       | inr k ↦ inr (q ∙ some _ _ k ∙ sym r)
     ]
 
--- no fault is first where there is none
+-- a list without a first fault is empty
 pub none_first : (xs : List Refusal) → first xs ≡ None → xs ≡ []
 none_first [] e = refl
 none_first (x ∷ xs) e = absurd (cc)
 
--- ---- statements that are bound
+-- ---- bound statements
 
 read_some : (m : Option ℤ) → first (or_bad_moment m).faults ≡ None
     → SetsClock m ≡ SetsClock (Some (or_bad_moment m).value)
@@ -100,7 +100,7 @@ read_prunes : (m : Option ℤ) → first (or_bad_moment m).faults ≡ None
 read_prunes None e = absurd (cc)
 read_prunes (Some m) e = refl
 
--- a statement without a fault does to the transaction and the clock what it does bound
+-- a statement without a fault has the class of its bound statement
 pub manner_kept : (defs : List TableDef) (t : Statement) → first (bind defs t).faults ≡ None
     → statement_class t ≡ class_of (bind defs t).value
 manner_kept defs (CreateTree n e es versioned) k = refl
@@ -121,7 +121,7 @@ manner_kept defs (OpenTree n) k = refl
 manner_kept defs (ReadTree n s keys) k = refl
 manner_kept defs (CloseTree n) k = refl
 
--- a statement without a fault is a step of what it is bound to
+-- the reply to a statement without a fault of names is a step of its bound statement
 pub bound_steps : (s : State) (t : Statement) → first (bind s.definitions t).faults ≡ None
     → respond s t ≡ step s (bind s.definitions t).value
 bound_steps s t k =

@@ -1,4 +1,4 @@
--- What a grouped query shows does not see the order of the rows.
+-- The output of a grouped query does not depend on the order of the rows.
 use Rattle.std.proofs.Common.{◌≡◌, ℕ, Bool, true, false, cond, List, [], ◌∷◌, map, filter, refl, sym, ap, ◌∙◌, subst}
 use Rattle.std.proofs.Common.{inl, inr}
 use Rattle.std.specs.Prelude.{Option, Some, None, slice_index_or}
@@ -19,9 +19,9 @@ use Rattle.tql_spec.proofs.GroupValues.{cells_agree, passing_same, items_same}
 use Rattle.tql_spec.proofs.DistinctBags.{distinct_same, in_distinct}
 use Rattle.tql_spec.proofs.QueryBags.{Same, mapped_same, flattened, flattened_same, same_rows}
 
--- ---- what each row or group shows
+-- ---- the output of each row or group
 
--- what is shown of one that passes
+-- the output of an element that passes; none for one that fails
 abbrev shown_if : {B : Type 0} → Bool → Option B → Option (List B)
 shown_if true o = o >>= λ r. Some (r ∷ [])
 shown_if false o = Some []
@@ -54,7 +54,7 @@ module _ {A B : Type 0} (test : A → Option Bool) (made : A → Option B) where
   one_more x (Some false) None rest e = e ∙ failing_front rest
   one_more x (Some false) (Some xs) rest e = e ∙ failing_front rest
 
-  -- what passes is shown one by one
+  -- filtering and then mapping gives the outputs of the elements in order
   shown_each : (xs : List A) → (filter_all test xs >>= map_all made) ≡ flattened (map_all shown_of xs)
   shown_each [] = refl
   shown_each (x ∷ xs) = one_more x (test x) (filter_all test xs) (map_all shown_of xs) (shown_each xs)
@@ -79,11 +79,11 @@ in_filter p x (y ∷ xs) (inr m) e = by_bool (p y)
     (λ k. subst (λ b. In x (cond b (y ∷ filter p xs) (filter p xs))) (sym k) (inr (in_filter p x xs m e)))
     (λ k. subst (λ b. In x (cond b (y ∷ filter p xs) (filter p xs))) (sym k) (in_filter p x xs m e))
 
--- the row that a group is read by
+-- the row that a group is evaluated on, its first
 abbrev first : List Row → Row
 first rows = slice_index_or rows 0 []
 
--- it is one of them
+-- the first row of a group with a member is one of its rows
 first_in : (r : Row) (rows : List Row) → In r rows → In (first rows) rows
 first_in r [] m = absurd m
 first_in r (s ∷ rows) m = inl refl
@@ -97,7 +97,7 @@ first_in_same r (s ∷ rows) (s' ∷ rows') h m = inl refl
 abbrev with_tuple : List ℕ → List Row → Row → List Row
 with_tuple columns rows t = filter (λ r. same_row (cells_at columns r) t) rows
 
--- each tuple once
+-- the distinct tuples of the columns
 abbrev tuples : List ℕ → List Row → List Row
 tuples columns rows = distinct_rows (map (cells_at columns) rows)
 
@@ -106,7 +106,7 @@ has_tuple columns rows t r m =
     same_row-is (cells_at columns r) t (in_kept (λ s. same_row (cells_at columns s) t) r rows m).1
 
 module _ (columns : List ℕ) (rows rows' : List Row) (h : SameBag rows rows') where
-  -- the first rows of a tuple's groups
+  -- the first rows of a tuple's two groups have the same cells in the columns
   firsts : (t : Row) → In t (tuples columns rows)
       → cells_at columns (first (with_tuple columns rows t)) ≡ cells_at columns (first (with_tuple columns rows' t))
   firsts t m =
@@ -127,14 +127,14 @@ module _ (having : List Cond) (items : List Expr) where
   abbrev made : Scope → Option Row
   made s = map_all (eval s.group s.row) items
 
-  -- what a group shows, if it passes
+  -- the output of a group, if it passes HAVING
   abbrev shows : Scope → Option (List Row)
   shows s = test s >>= λ b. shown_if b (made s)
 
   shown_is : (xs : List Scope) → shown having items xs ≡ flattened (map_all shows xs)
   shown_is xs = shown_each test made xs
 
-  -- two groups of the same rows, with the same cells in the grouping columns
+  -- two groups with the same bag and the same grouping cells have the same output
   same_shows : (groups : List ℕ) (group group' : List Row) → NamesGroups (Some groups) having items
       → SameBag group group' → ((i : ℕ) → has_number i groups ≡ true → cell (first group) i ≡ cell (first group') i)
       → shows (of_group group) ≡ shows (of_group group')
@@ -147,18 +147,18 @@ module _ (having : List Cond) (items : List Expr) where
       items_same groups group group' row row' h agree items n.0 in
       λ i. p i >>= λ b. shown_if b (q i)
 
-  -- what the group of a tuple shows
+  -- the output of the group of a tuple
   abbrev tuple_shows : List ℕ → List Row → Row → Option (List Row)
   tuple_shows columns rows t = shows (of_group (with_tuple columns rows t))
 
-  -- the groups by their tuples
+  -- the outputs of the groups, by their tuples
   by_tuples : (columns : List ℕ) (rows : List Row) → map_all shows (map of_group (groups_by columns rows))
       ≡ map_all (tuple_shows columns rows) (tuples columns rows)
   by_tuples columns rows =
       all_of_map shows of_group (groups_by columns rows)
       ∙ all_of_map (λ g. shows (of_group g)) (with_tuple columns rows) (tuples columns rows)
 
-  -- a tuple's groups on both sides show the same
+  -- the groups of a tuple on both sides have the same output
   tuple_alike : (columns : List ℕ) (rows rows' : List Row) → NamesGroups (Some columns) having items
       → SameBag rows rows' → (t : Row) → In t (tuples columns rows)
       → tuple_shows columns rows t ≡ tuple_shows columns rows' t
@@ -186,7 +186,7 @@ module _ (having : List Cond) (items : List Expr) where
       (subst (λ p. Same (map_all of_tuple' ts) p) (sym (by_tuples columns rows'))
       (mapped_same of_tuple' ts ts' bags (map_all of_tuple' ts) (map_all of_tuple' ts') refl refl))
 
-  -- the rows or groups, one by one
+  -- the outputs of the rows or groups on both sides have the same bag
   each_same : (grouping : Option (List ℕ)) (rows rows' : List Row) → NamesGroups grouping having items
       → SameBag rows rows'
       → Same (map_all shows (scopes grouping rows)) (map_all shows (scopes grouping rows'))
@@ -203,7 +203,7 @@ module _ (having : List Cond) (items : List Expr) where
       itself (Some xs) = record { totals = λ w. refl }
   each_same (Some (c ∷ cs)) rows rows' n h = grouped (c ∷ cs) rows rows' n h
 
--- what is shown of the rows or groups, in any order
+-- the law: the output of a grouped query does not depend on the order of the rows
 pub groups : GroupsKeepNoOrder
 groups grouping having items rows rows' n h =
     let some : List Scope = scopes grouping rows in

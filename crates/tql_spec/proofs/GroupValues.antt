@@ -1,4 +1,4 @@
--- What is evaluated on a group sees the bag of its rows and the cells of its grouping columns alone.
+-- Evaluation on a group depends only on the bag of its rows and the cells of its grouping columns.
 use Rattle.std.proofs.Common.{◌≡◌, ℕ, Bool, true, false, List, [], ◌∷◌, refl, sym, ap, ◌∙◌, arith, inl, inr}
 use Rattle.std.specs.Prelude.{Option, Some, None, ◌||◌, ◌==◌, ◌⊎◌, not, pos, IsTrue, if◌then◌else◌}
 use Rattle.std.specs.List.{list_all}
@@ -42,7 +42,7 @@ number_or i j js h = by (i == j) refl h
     by true e k = inl (grind (arith, nat_tests))
     by false e k = inr k
 
--- rows with the same cells in these columns have the same in each of them
+-- rows with the same cells in these columns have the same cell in each of them
 pub cells_agree : (columns : List ℕ) (r s : Row) → cells_at columns r ≡ cells_at columns s
     → (i : ℕ) → has_number i columns ≡ true → cell r i ≡ cell s i
 cells_agree [] r s e i h = absurd (cc)
@@ -52,7 +52,7 @@ cells_agree (j ∷ js) r s e i h =
 
 -- ---- aggregates of rows
 
--- an aggregate of what the rows give
+-- an aggregate of the values on the rows depends only on their bag
 of_same : (f : Function) (o p : Option (List Datum)) → Same o p
     → (o >>= λ vs. aggregate f (present vs)) ≡ (p >>= λ vs. aggregate f (present vs))
 of_same f None None h = refl
@@ -107,7 +107,7 @@ module _ (groups : List ℕ) (group group' : List Row) (row row' : Row) (h : Sam
       let p = not_either (has_expr (is_loose groups) c) (has_expr (is_loose groups) d) l in
       λ i. both or (truth_same c p.0 i) (truth_same d p.1 i)
 
-  -- whether the group passes HAVING
+  -- whether the groups pass HAVING is the same
   pub passing_same : (having : List Cond) → IsTrue (list_all (λ c. not (has_expr (is_loose groups) c)) having)
       → passes group row having ≡ passes group' row' having
   passing_same [] l = refl
@@ -116,7 +116,7 @@ module _ (groups : List ℕ) (group group' : List Row) (row row' : Row) (h : Sam
       (list_all (λ c. not (has_expr (is_loose groups) c)) cs) l in
       λ i. truth_same c p.0 i >>= λ t. go_on t (passing_same cs p.1 i)
 
-  -- the values of the items
+  -- the values of the items are the same
   pub items_same : (items : List Expr) → IsTrue (list_all (λ e. not (is_loose groups e)) items)
       → map_all (eval group row) items ≡ map_all (eval group' row') items
   items_same [] l = refl

@@ -1,4 +1,4 @@
--- Worked statements of pruned history and of readers, computed by the machine.
+-- Worked statements of pruned history and of readers, computed by the reference model.
 use Rattle.std.specs.Prelude.{◌≡◌, refl, ℕ, List, [], ◌∷◌, ◌++◌, codes, pos, ◌-ℤ◌, false, None}
 use Rattle.std.specs.Fmt.{digits}
 use Rattle.tql_spec.specs.Calendar.{high}
@@ -11,7 +11,7 @@ use Rattle.tql_spec.specs.Machine.{OpenReader, Read, CloseReader}
 use Rattle.tql_spec.proofs.Rows.{printed}
 use Rattle.tql_spec.proofs.Samples.{empty_log, ask, midnight, num, plain, all_log, log_names}
 
--- 7 stood through January, 8 stands from March on
+-- 7 is current through January, 8 from March on
 abbrev two_months : List Bound
 two_months = empty_log ++ ChangeRows (InsertTuples 0 (0 ∷ []) ((num (pos 7) ∷ []) ∷ []))
     ∷ SetClock (midnight 2011 2 1) ∷ ChangeRows (Modify 0 None Remove [])
@@ -20,7 +20,7 @@ two_months = empty_log ++ ChangeRows (InsertTuples 0 (0 ∷ []) ((num (pos 7) �
 abbrev two_months_text : List ℕ
 two_months_text = codes "CREATE TABLE\nAT\nINSERT 1\nAT\nDELETE 1\nAT\nINSERT 1\n"
 
--- nothing before the horizon is asked for, and the horizon does not go back
+-- a question before the horizon is refused, and the horizon cannot move back
 pub pruned_between :
     printed (two_months ++ Prune (midnight 2011 2 10)
     ∷ ask 0 3 (AsOf (midnight 2011 2 10 -ℤ pos 1)) [] all_log log_names
@@ -31,14 +31,14 @@ pub pruned_between :
 unfolding digits
 pruned_between = refl
 
--- a version that began before the horizon and stands there is kept
+-- a version that began before the horizon and is valid at it is kept
 pub pruned_within :
     printed (two_months ++ Prune (midnight 2011 1 15) ∷ ask 0 3 (AsOf (midnight 2011 1 15)) [] all_log log_names ∷ [])
     ≡ two_months_text ++ codes "PRUNE HISTORY\nX|S|E\n7|2011-01-01 00:00:00|2011-02-01 00:00:00\n(1 rows)\n"
 unfolding digits
 pruned_within = refl
 
--- at the highest moment too the current rows are kept
+-- even at the highest moment, the current rows are kept
 pub pruned_to_the_end :
     printed (two_months ++ Prune high ∷ ask 0 3 Now [] all_log log_names
     ∷ ask 0 3 (AsOf (midnight 2011 3 1)) [] all_log log_names ∷ [])
@@ -47,7 +47,7 @@ pub pruned_to_the_end :
 unfolding digits
 pruned_to_the_end = refl
 
--- the whole log
+-- a query of the whole log
 abbrev the_log : Query
 the_log = record {
   chains = record { first = record { table = 0; when = Now; width = 3 }; joins = [] } ∷ [];
@@ -60,7 +60,7 @@ the_log = record {
   ordering = [];
 }
 
--- a reader sees what was committed when it was opened, until it is closed
+-- until it is closed, a reader sees the commits up to its opening
 pub reader_stays :
     printed (empty_log ++ ChangeRows (InsertTuples 0 (0 ∷ []) ((num (pos 7) ∷ []) ∷ [])) ∷ OpenReader (codes "R")
     ∷ Start ∷ ChangeRows (Modify 0 None Remove []) ∷ Read (codes "R") the_log ∷ Commit ∷ Read (codes "R") the_log

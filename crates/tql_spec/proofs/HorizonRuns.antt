@@ -1,4 +1,4 @@
--- A run without the statements that prune answers as the run with them.
+-- A run without the statements that prune gives the same replies as the run with them.
 use Rattle.std.proofs.Common.{◌≡◌, refl, sym, ap, subst, ◌∙◌, ℕ, zero, suc, Bool, true, false, cond, List, [], ◌∷◌}
 use Rattle.std.proofs.Common.{◌++◌, map, filter, take, inl, inr, arith, append_assoc}
 use Rattle.std.specs.Prelude.{◌⊎◌, ◌||◌, not, nat_le, length, remove, slice_set, ℤ, ◌≤ℤ◌, int_lt, if◌then◌else◌}
@@ -43,7 +43,7 @@ use Rattle.tql_spec.proofs.Horizons.{answer_same, none_asks}
 
 -- ---- a state with fewer copies and a later horizon
 
--- a state but for its copies, its horizon and its readers
+-- the state with its newest n copies, and with another horizon and other readers
 abbrev cut : State → ℕ → ℤ → List Reader → State
 cut s n h rs = record s { history = take n s.history; horizon = h; readers = rs }
 
@@ -55,14 +55,14 @@ newest_left defs h zero (e ∷ es) k = absurd k
 newest_left defs h (suc n) [] k = absurd k
 newest_left defs h (suc n) (e ∷ es) k = refl
 
--- and its moment
+-- the moment of the newest copy is left
 later_left : (m h : ℤ) (n : ℕ) (es : List Entry) → IsLeft h n es → is_not_later m (take n es) ≡ is_not_later m es
 later_left m h zero [] k = refl
 later_left m h zero (e ∷ es) k = absurd k
 later_left m h (suc n) [] k = absurd k
 later_left m h (suc n) (e ∷ es) k = refl
 
--- what is done to each copy leaves the moments
+-- the same change of each copy does not change which copies are left
 left_in_each : (g : Copy → Copy) (h : ℤ) (n : ℕ) (es : List Entry) → IsLeft h n es
     → IsLeft h n (map (λ (e : Entry). record e { copy = g e.copy }) es)
 left_in_each g h zero [] k = tt
@@ -73,7 +73,7 @@ left_in_each g h (suc n) (e ∷ es) (inr k) = inr (left_in_each g h n es k)
 
 -- ---- readers
 
--- their names are the same
+-- pruned readers have the same names
 live_left : (m : Name) (h : ℤ) (rs cs : List Reader) → ArePrunedReaders h rs cs → is_live m cs ≡ is_live m rs
 live_left m h [] [] p = refl
 live_left m h [] (c ∷ cs) p = absurd p
@@ -82,7 +82,7 @@ live_left m h (r ∷ rs) (c ∷ cs) p =
     ap (λ (x : Reader). same_text m x.name || is_live m cs) p.0.same
     ∙ ap (λ b. same_text m r.name || b) (live_left m h rs cs p.1)
 
--- so is their number
+-- pruned readers are as many
 count_left : (h : ℤ) (rs cs : List Reader) → ArePrunedReaders h rs cs → length (names_of cs) ≡ length (names_of rs)
 count_left h [] [] p = refl
 count_left h [] (c ∷ cs) p = absurd p
@@ -95,7 +95,7 @@ open_left h [] (c ∷ cs) p = absurd p
 open_left h (r ∷ rs) [] p = absurd p
 open_left h (r ∷ rs) (c ∷ cs) p = refl
 
--- and which horizons pass them
+-- the same horizons pass the copies that are left
 pass_left : (m h : ℤ) (n : ℕ) (es : List Entry) → IsLeft h n es → passes m (take n es) ≡ passes m es
 pass_left m h zero [] k = refl
 pass_left m h zero (e ∷ es) k = absurd k
@@ -111,7 +111,7 @@ passes_left m h (r ∷ rs) (c ∷ cs) p =
     ∙ ap (λ b. b || passes_some m cs) (pass_left m h p.0.left r.pinned p.0.enough)
     ∙ ap (λ b. passes m r.pinned || b) (passes_left m h rs cs p.1)
 
--- what is left of what a reader set aside
+-- a pruned reader has the copies that the horizon leaves of the full reader's copies
 pinned_left : (h : ℤ) (m : Name) (rs cs : List Reader) → ArePrunedReaders h rs cs
     → LeavesSome h (pinned_of m cs) (pinned_of m rs)
 pinned_left h m [] [] p = record { left = 0; same = refl; enough = tt }
@@ -134,7 +134,7 @@ falls_pinned m (r ∷ rs) f = either (same_text m r.name) (falls_pinned m rs (λ
     either true k = f r (inl refl)
     either false k = k
 
--- one reader more
+-- one more reader on both sides
 pins_more : (h : ℤ) (rs cs : List Reader) (r c : Reader) → IsPrunedReader h r c → ArePrunedReaders h rs cs
     → ArePrunedReaders h (rs ++ r ∷ []) (cs ++ c ∷ [])
 pins_more h [] [] r c k p = (k, tt)
@@ -142,7 +142,7 @@ pins_more h [] (y ∷ cs) r c k p = absurd p
 pins_more h (x ∷ rs) [] r c k p = absurd p
 pins_more h (x ∷ rs) (y ∷ cs) r c k p = (p.0, pins_more h rs cs r c k p.1)
 
--- those whose names a test keeps
+-- the readers whose names pass a test
 abbrev named : (Name → Bool) → List Reader → List Reader
 named test rs = filter (λ (x : Reader). test x.name) rs
 
@@ -160,7 +160,7 @@ pins_kept h test (r ∷ rs) (c ∷ cs) p =
     either true k = (p.0, k)
     either false k = k
 
--- at a later horizon
+-- copies that suffice for a horizon suffice for a later one
 left_later : (h m : ℤ) → h ≤ℤ m → (n : ℕ) (es : List Entry) → IsLeft h n es → IsLeft m n es
 left_later h m l zero [] k = tt
 left_later h m l zero (e ∷ es) k = absurd k
@@ -177,29 +177,29 @@ pins_later h m l (r ∷ rs) (c ∷ cs) p = (
   pins_later h m l rs cs p.1,
 )
 
--- no reply of a statement that does not prune is PRUNE HISTORY
+-- whether a reply is that of PRUNE HISTORY
 abbrev is_pruned : Reply → Bool
 is_pruned (Done Pruned n) = true
 is_pruned _ = false
 
--- a step of both: the same reply, which is not PRUNE HISTORY, and the states after it
+-- both sides make the same step: the same reply, not PRUNE HISTORY, and states of which one is the other pruned
 record SameStep (full cut : Reply × State) : Type 0 where
   reply : cut.0 ≡ full.0
   plain : is_pruned cut.0 ≡ false
   after : IsPruned full.1 cut.1
 
--- a step of both, or one that comes of pruning and leaves the whole state as it is
+-- the cut state makes the same step, or a step due to pruning that leaves it a pruned form of s
 abbrev Stepped : State → Reply × State → Reply × State → Type 0
 Stepped s full cut = ((is_of_pruning cut.0 ≡ true) × IsPruned s cut.1) ⊎ SameStep full cut
 
--- the word of a change is another
+-- the reply to a change is not PRUNE HISTORY
 verb_plain : (c : Change) (n : Option ℕ) → is_pruned (Done (verb_of c) n) ≡ false
 verb_plain (InsertTuples t columns tuples) n = refl
 verb_plain (InsertQuery t columns q) n = refl
 verb_plain (Modify t portion (Work.Set sets) conds) n = refl
 verb_plain (Modify t portion Work.Remove conds) n = refl
 
--- a change by its working copy and its outcome
+-- the reply and the state of a change, from its working copy and its outcome
 abbrev altered_by : State → Change → Entry → Outcome → Reply × State
 altered_by s c e o =
     let copy = slice_set e.copy (changed_table c) o.rows in
@@ -208,12 +208,12 @@ altered_by s c e o =
 
 -- ---- faults by two horizons
 
--- the faults by the later horizon are the same, or there is one more
+-- the faults by the later horizon are the same, or BEFORE THE HORIZON is added at the end
 abbrev SameLimits : List Refusal → List Refusal → Type 0
 SameLimits more less =
     (more ≡ less) ⊎ ((common : List Refusal) × (more ≡ common ++ BeforeTheHorizon ∷ []) × (less ≡ common))
 
--- behind other faults
+-- the same with other faults in front
 behind : (front : List Refusal) {whole more less : List Refusal} → whole ≡ front ++ more → SameLimits more less
     → SameLimits whole (front ++ less)
 behind front q (inl e) = inl (q ∙ ap (λ xs. front ++ xs) e)
@@ -229,7 +229,7 @@ by_tests true false h = inr ([], refl, refl)
 by_tests false true h = absurd (let e = h refl in cc)
 by_tests false false h = inl refl
 
--- either the first fault is the horizon's, or it is the same
+-- the first fault is that of the horizon, or it is the same on both sides
 first_either : (more less rest : List Refusal) → SameLimits more less
     → (first (more ++ rest) ≡ Some BeforeTheHorizon) ⊎ (first (more ++ rest) ≡ first (less ++ rest))
 first_either more less rest (inl e) = inr (ap (λ xs. first (xs ++ rest)) e)
@@ -243,11 +243,11 @@ first_either more less rest (inr (common, e, f)) = elim (one_more common BeforeT
 
 module _ (s : State) (n : ℕ) (h : ℤ) (rs : List Reader) (later : s.horizon ≤ℤ h) (k : IsLeft h n s.history)
     (pins : ArePrunedReaders h s.readers rs) (set_aside : (r : Reader) → In r s.readers → Falling r.pinned) where
-  -- the state itself
+  -- the cut state is a pruned form of s
   self : IsPruned s (cut s n h rs)
   self = record { horizon = h; left = n; readers = rs; same = refl; later = later; enough = k; pins = pins }
 
-  -- the faults of the transaction and the clock are the same
+  -- the faults by the transaction, the clock and the readers are the same
   state_same : (m : StatementClass) → state_faults (cut s n h rs) m ≡ state_faults s m
   state_same Defines =
       ap (λ b. fault_if (is_some s.transaction) NotInThisTransactionState ++ fault_if b ReadersAreOpen)
@@ -278,7 +278,7 @@ module _ (s : State) (n : ℕ) (h : ℤ) (rs : List Reader) (later : s.horizon �
   working_same None = ap (λ copy. record { moment = s.next; copy = copy }) last_same
   working_same (Some e) = refl
 
-  -- each question that does not ask before the horizon finds the same
+  -- a question that does not ask before the horizon has the same result
   bag_same : Falling (entries s) → (r : Ref) → is_before h r.when ≡ false → bag_of (cut s n h rs) r ≡ bag_of s r
   bag_same f r e = ap (λ vs. map (full (table_at s.definitions r.table)) vs) (either s.transaction f)
     where
@@ -288,7 +288,7 @@ module _ (s : State) (n : ℕ) (h : ℤ) (rs : List Reader) (later : s.horizon �
       either None g = question_left r.table h n s.history r.when g k e
       either (Some w) g = question_left r.table h (suc n) (w ∷ s.history) r.when g (inr k) e
 
-  -- so does each question of what a reader set aside
+  -- a question to the copies of a reader that does not ask before the horizon has the same result
   pinned_same : (m : Name) (r : Ref) → is_before h r.when ≡ false
       → bag_in s.definitions (pinned_of m rs) r ≡ bag_in s.definitions (pinned_of m s.readers) r
   pinned_same m r e =
@@ -297,13 +297,13 @@ module _ (s : State) (n : ℕ) (h : ℤ) (rs : List Reader) (later : s.horizon �
       (ap (λ es. found r.when (table_history r.table es)) p.same
       ∙ question_left r.table h p.left (pinned_of m s.readers) r.when (falls_pinned m s.readers set_aside) p.enough e)
 
-  -- a query that does not is answered the same
+  -- a query that does not ask before the horizon has the same answer
   query_same : Falling (entries s) → (q : Query) → asks_before h q ≡ false
       → answer (bag_of (cut s n h rs)) q ≡ answer (bag_of s) q
   query_same f q e = answer_same (bag_of (cut s n h rs)) (bag_of s) q
       (λ r m. bag_same f r (none_asks (λ (x : Ref). is_before h x.when) (refs q) e r m))
 
-  -- so is a change
+  -- a change that does not ask before the horizon has the same outcome
   outcome_same : Falling (entries s) → (m : ℤ) (copy : Copy) (c : Change) → change_faults h c ≡ []
       → outcome (cut s n h rs) m copy c ≡ outcome s m copy c
   outcome_same f m copy (InsertTuples t columns tuples) e = refl
@@ -314,14 +314,14 @@ module _ (s : State) (n : ℕ) (h : ℤ) (rs : List Reader) (later : s.horizon �
 
   -- ---- effects
 
-  -- a commit of both
+  -- a change of the working copy, or its commit, on both sides
   kept_working : (o : Option Entry) (e : Entry) → IsPruned (with_working s o e) (with_working (cut s n h rs) o e)
   kept_working None e =
       record { horizon = h; left = suc n; readers = rs; same = refl; later = later; enough = inr k; pins = pins }
   kept_working (Some w) e =
       record { horizon = h; left = n; readers = rs; same = refl; later = later; enough = k; pins = pins }
 
-  -- a change of the same working copy with the same outcome
+  -- a change of the same working copy with the same outcome, on both sides
   altered_same : (c : Change) (e : Entry) (o : Outcome)
       → SameStep (altered_by s c e o) (altered_by (cut s n h rs) c e o)
   altered_same c e o =
@@ -347,12 +347,12 @@ module _ (s : State) (n : ℕ) (h : ℤ) (rs : List Reader) (later : s.horizon �
       ∙ ap (λ o. altered_by (cut s n h rs) c w o) (outcome_same f w.moment w.copy c e)))
       (altered_same c w (outcome s w.moment w.copy c))
 
-  -- a query
+  -- a query on both sides
   asked_same : (q : Query) (o : Option (List Row)) → SameStep (asked s q o) (asked (cut s n h rs) q o)
   asked_same q None = record { reply = refl; plain = refl; after = self }
   asked_same q (Some rows) = record { reply = refl; plain = refl; after = self }
 
-  -- what is done to every copy
+  -- the same change of every copy on both sides
   each_same : (g : Copy → Copy) (defs : List TableDef) (v : Verb) → is_pruned (Done v None) ≡ false
       → SameStep (Done v None, in_each_copy g (record s { definitions = defs }))
       (Done v None, in_each_copy g (record (cut s n h rs) { definitions = defs }))
@@ -376,7 +376,7 @@ module _ (s : State) (n : ℕ) (h : ℤ) (rs : List Reader) (later : s.horizon �
   committed_same None = record { reply = refl; plain = refl; after = self }
   committed_same (Some e) = record { reply = refl; plain = refl; after = kept_working None e }
 
-  -- each effect is the same, or comes of pruning
+  -- each effect is the same on both sides, or due to pruning
   effect_same : Falling (entries s) → (b : Bound) → limit_faults (cut s n h rs) b ≡ []
       → Stepped s (effect s b) (effect (cut s n h rs) b)
   effect_same f (CreateTable d) e =
@@ -469,7 +469,7 @@ module _ (s : State) (n : ℕ) (h : ℤ) (rs : List Reader) (later : s.horizon �
   query_limits : (q : Query) → SameLimits (query_faults h q) (query_faults s.horizon q)
   query_limits q = by_tests (asks_before h q) (asks_before s.horizon q) (asks_later s.horizon h later q)
 
-  -- the faults by the horizon are the same, or more
+  -- the faults by the limits are the same, or one by the horizon is added
   limits : (b : Bound) → SameLimits (limit_faults (cut s n h rs) b) (limit_faults s b)
   limits (CreateTable d) = inl refl
   limits (DropTable t) = inl refl
@@ -493,7 +493,7 @@ module _ (s : State) (n : ℕ) (h : ℤ) (rs : List Reader) (later : s.horizon �
       (ap (λ b. fault_if (not b || reads_plain s.definitions q) ReaderNotUsable ++ query_faults h q)
       (live_left m h s.readers rs pins)) (query_limits q)
 
-  -- a statement's reply is that of the horizon, or its first fault is the same
+  -- the first fault of a statement is that of the horizon, or the same on both sides
   first_same : (t : Statement)
       → (first (statement_faults (cut s n h rs) t) ≡ Some BeforeTheHorizon)
       ⊎ (first (statement_faults (cut s n h rs) t) ≡ first (statement_faults s t))
@@ -524,20 +524,20 @@ module _ (s : State) (n : ℕ) (h : ℤ) (rs : List Reader) (later : s.horizon �
       either None q =
           effect_same f b (no_left (limit_faults (cut s n h rs) b) _ (none_first (statement_faults (cut s n h rs) t) q))
 
-  -- so is the reply to what a piece says
+  -- the reply to the sense of a piece is the same on both sides, or due to pruning
   sense_same : Falling (entries s) → (sense : Sense) → Stepped s (respond_to s sense) (respond_to (cut s n h rs) sense)
   sense_same f (Says t) = respond_same f t
   sense_same f (Faulty e) = inr (record { reply = refl; plain = refl; after = self })
 
 -- ---- runs
 
--- a reply of pruning that is not PRUNE HISTORY is the refusal
+-- a reply due to pruning that is not PRUNE HISTORY is the refusal for the horizon
 is_refusal : (r : Reply) → is_of_pruning r ≡ true → is_pruned r ≡ false → r ≡ Refused BeforeTheHorizon
 is_refusal (Done Pruned n) e f = absurd (cc)
 is_refusal (Refused BeforeTheHorizon) e f = refl
 is_refusal _ e f = absurd (cc)
 
--- one piece: left out, or answered the same
+-- the reply to a piece is due to pruning, and the new state is a pruned form of s
 record Skips (s new : State) (r : Reply) : Type 0 where
   out : is_of_pruning r ≡ true
   after : IsPruned s new
@@ -609,7 +609,7 @@ runs_without s c new k o (p ∷ ps) (x ∷ xs) (mid, a, rest) =
         → RunsWithout s (p ∷ other_pieces ps xs) (x ∷ other_replies xs) new
     further y w = record { full = w.full; run = (y.full, y.answers, w.run); pruned = w.pruned }
 
--- all copies are left where none was let go
+-- all copies of a list suffice for any horizon
 pub whole : (h : ℤ) (es : List Entry) → LeavesSome h es es
 whole h [] = record { left = 0; same = refl; enough = tt }
 whole h (e ∷ es) =

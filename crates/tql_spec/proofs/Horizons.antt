@@ -1,4 +1,4 @@
--- The copies that a horizon leaves answer questions from it on, and whole queries, as all of them do.
+-- The copies that a horizon leaves answer questions from it on, and whole queries, as all copies do.
 use Rattle.std.proofs.Common.{◌≡◌, refl, sym, ap, ◌∙◌, ℕ, zero, suc, Bool, true, false, List, [], ◌∷◌, ◌++◌, map}
 use Rattle.std.proofs.Common.{filter, take, inl, inr, arith}
 use Rattle.std.specs.Prelude.{◌⊎◌, ◌&&◌, ◌||◌, not, ℤ, pos, ◌+ℤ◌, ◌≤ℤ◌, ◌<ℤ◌, int_le, int_lt, if◌then◌else◌, Option}
@@ -24,17 +24,17 @@ use Rattle.tql_spec.proofs.Members.{lt_tells, le_tells}
 use Rattle.tql_spec.proofs.MemberLists.{in_left, in_right}
 use Rattle.tql_spec.proofs.SpanLaws.{none_after}
 
--- ---- what is left of the copies
+-- ---- the copies that are left
 
--- a table in a copy
+-- one table in a copy
 abbrev at : ℕ → Entry → TableEntry
 at t e = record { moment = e.moment; rows = rows_in e.copy t }
 
--- a moment that a test finds not before another
+-- a moment that the test does not find before another is not before it
 pub not_before : (m h : ℤ) → int_lt m h ≡ false → h ≤ℤ m
 not_before m h e = elim (lt_tells m h) [ inl s ↦ absurd (let k = s.0 in cc) | inr s ↦ s.1 ]
 
--- AS OF
+-- AS OF finds the same in the copies that are left
 as_of_left : (t : ℕ) (h m : ℤ) → h ≤ℤ m → (n : ℕ) (es : List Entry) (until : ℤ) (ends : Stamped → ℤ)
     → FallingFrom until es
     → IsLeft h n es
@@ -56,11 +56,11 @@ as_of_left t h m l (suc n) (e ∷ es) until ends f (inr k) =
     ap (λ rest. if int_le e.moment m && int_lt m until then completed ends (rows_in e.copy t) else rest)
     (as_of_left t h m l n es e.moment (ends_before (at t e) ends) f.1 k)
 
--- a copy that stands no longer than the range's first moment is not met
+-- a copy that is valid only up to the start of the range is not met
 unmet : (a b s until : ℤ) → until ≤ℤ a → meets a b s until ≡ false
 unmet a b s until l = grind (arith, ints)
 
--- no copy of these is met
+-- copies that are older than the start of the range add nothing
 none_met : (t : ℕ) (a b : ℤ) (es : List Entry) (until : ℤ) (ends : Stamped → ℤ) → FallingFrom until es → until ≤ℤ a
     → found_from until ends a b (table_history t es) ≡ []
 none_met t a b [] until ends f l = refl
@@ -72,7 +72,7 @@ none_met t a b (e ∷ es) until ends f l =
     (if c then completed ends (rows_in e.copy t) else []) ++ [])
     (unmet a b e.moment until l)
 
--- ranges
+-- a range finds the same in the copies that are left
 found_left : (t : ℕ) (h a b : ℤ) → h ≤ℤ a → (n : ℕ) (es : List Entry) (until : ℤ) (ends : Stamped → ℤ)
     → FallingFrom until es
     → IsLeft h n es
@@ -96,7 +96,7 @@ found_left t h a b l (suc n) (e ∷ es) until ends f (inr k) =
     (if meets a b e.moment until then completed ends (rows_in e.copy t) else []) ++ earlier)
     (found_left t h a b l n es e.moment (ends_before (at t e) ends) f.1 k)
 
--- each question that does not ask before the horizon
+-- each question that does not ask before the horizon finds the same in the copies that are left
 pub question_left : (t : ℕ) (h : ℤ) (n : ℕ) (es : List Entry) (w : When) → Falling es → IsLeft h n es
     → is_before h w ≡ false
     → found w (table_history t (take n es)) ≡ found w (table_history t es)
@@ -108,9 +108,9 @@ question_left t h n es (AsOf m) f k e = as_of_left t h m (not_before m h e) n es
 question_left t h n es (FromTo a b) f k e = found_left t h a b (not_before a h e) n es high still f k
 question_left t h n es (Between a b) f k e = found_left t h a (b +ℤ pos 1) (not_before a h e) n es high still f k
 
--- ---- what PRUNE leaves
+-- ---- the copies that PRUNE leaves
 
--- a later horizon leaves some of what is left
+-- `kept` is the newest copies of a list, and they suffice for the horizon h
 pub record LeavesSome (h : ℤ) (kept : List Entry) (es : List Entry) : Type 0 where
   pub left : ℕ
   pub same : kept ≡ take left es
@@ -144,7 +144,7 @@ pruned_left h m l (suc n) (e ∷ es) (inr k) = either (le_tells e.moment m) (pru
       enough = inr r.enough;
     }
 
--- so does the first one
+-- pruning the whole history leaves copies of this form
 pub pruned_some : (h : ℤ) (es : List Entry) → LeavesSome h (pruned h es) es
 pruned_some h [] = record { left = 0; same = refl; enough = tt }
 pruned_some h (e ∷ es) = either (le_tells e.moment h) (pruned_some h es)
@@ -162,7 +162,7 @@ pruned_some h (e ∷ es) = either (le_tells e.moment h) (pruned_some h es)
       enough = inr r.enough;
     }
 
--- the law of one table
+-- the law: pruning does not change the answers for one table
 pub pruned_answers_stay : PrunedAnswersStay
 pruned_answers_stay t h es w f e =
     let k = pruned_some h es in
@@ -170,7 +170,7 @@ pruned_answers_stay t h es w f e =
 
 -- ---- whole queries
 
--- a query answers the same over bags that agree at its references
+-- a query has the same answer over bags that agree on its references
 module _ (bag bag' : Ref → List Row) where
   joined_same : (j : Join) (rows : List Row) → bag (joined_ref j) ≡ bag' (joined_ref j)
       → joined_with bag rows j ≡ joined_with bag' rows j
@@ -211,7 +211,7 @@ module _ (bag bag' : Ref → List Row) where
       >>= λ kept. map_all (λ s. map_all (eval s.group s.row) q.items) kept
       >>= λ out. Some (if_distinct q.distinct out)) (chains_same q.chains h)
 
--- no reference of a query that does not ask before the horizon does
+-- if no member passes a test, a given member does not
 pub none_asks : (p : Ref → Bool) (rs : List Ref) → list_any p rs ≡ false → (r : Ref) → In r rs → p r ≡ false
 none_asks p [] e r m = absurd m
 none_asks p (x ∷ rs) e r (inl q) = ap p q ∙ first (p x) (list_any p rs) e
@@ -232,7 +232,7 @@ before_later g h l (AsOf m) e = grind (arith, ints)
 before_later g h l (FromTo a b) e = grind (arith, ints)
 before_later g h l (Between a b) e = grind (arith, ints)
 
--- what holds of some reference holds where it follows
+-- if some reference passes a test, some reference passes a weaker test
 any_more : (p q : Ref → Bool) → ((r : Ref) → p r ≡ true → q r ≡ true) → (rs : List Ref) → list_any p rs ≡ true
     → list_any q rs ≡ true
 any_more p q h [] e = e
@@ -243,7 +243,7 @@ any_more p q h (r ∷ rs) e = either (p r) (q r) (list_any p rs) (list_any q rs)
     either false true c d f g k = refl
     either false false c d f g k = g k
 
--- so does a query
+-- a query that asks before a horizon asks before a later one
 pub asks_later : (g h : ℤ) → g ≤ℤ h → (q : Query) → asks_before g q ≡ true → asks_before h q ≡ true
 asks_later g h l q =
     any_more (λ (r : Ref). is_before g r.when) (λ (r : Ref). is_before h r.when) (λ r. before_later g h l r.when)
@@ -251,7 +251,7 @@ asks_later g h l q =
 
 -- ---- literals
 
--- a literal that reads as no moment stands for one that is before no horizon
+-- the placeholder for a literal out of range is before no horizon
 read_before : (h : ℤ) → h ≤ℤ high → (o : Option ℤ) → int_lt (or_bad_moment o).value h ≡ is_read_before h o
 read_before h l None = elim (lt_tells high h) [ inl s ↦ absurd (let a = s.1 in omega (arith, ints)) | inr s ↦ s.0 ]
 read_before h l (Some m) = refl

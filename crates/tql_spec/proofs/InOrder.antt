@@ -1,4 +1,4 @@
--- The moments of commits fall below the clock, and copies fit the definitions.
+-- The moments of commits decrease and lie below the clock, and copies fit the definitions.
 use Rattle.std.proofs.Common.{◌≡◌, refl, sym, ap, subst, ◌∙◌, true, false, List, [], ◌∷◌, ◌++◌, map, inl, inr, arith}
 use Rattle.std.specs.Prelude.{Bool, not, ℤ, pos, ◌+ℤ◌, ◌<ℤ◌, ◌≤ℤ◌, int_le, Option, Some, None, if◌then◌else◌}
 use Rattle.std.proofs.lemmas.Int.{ints}
@@ -19,28 +19,28 @@ use Rattle.tql_spec.specs.Reached.{IsReached, IsInOrder}
 use Rattle.tql_spec.proofs.MemberLists.{in_either, in_kept}
 use Rattle.tql_spec.proofs.RunKeeps.{asked_stays, changed_copy, altered_keeps, EffectKeeps, run_keeps}
 
--- a fault that is not there
+-- if the fault is absent, the test is false
 pub no_fault : (b : Bool) (e : Refusal) → fault_if b e ≡ [] → b ≡ false
 no_fault true e q = absurd (cc)
 no_fault false e q = refl
 
--- an upper bound can rise
+-- an upper bound of the moments can be raised
 falls_below : (a b : ℤ) (es : List Entry) → a ≤ℤ b → FallingFrom a es → FallingFrom b es
 falls_below a b [] h f = tt
 falls_below a b (e ∷ es) h f = (omega (arith, ints, f.0), f.1)
 
--- a moment that is later than the last commit's bounds all
+-- a moment later than the last commit is an upper bound
 falls_later : (n m : ℤ) (es : List Entry) → FallingFrom n es → is_not_later m es ≡ false → FallingFrom m es
 falls_later n m [] f e = tt
 falls_later n m (x ∷ es) f e = (grind (arith, ints), f.1)
 
--- the moments stay where the copies change
+-- a change of the copies does not change the moments
 falls_in_each : (g : Copy → Copy) (until : ℤ) (es : List Entry) → FallingFrom until es
     → FallingFrom until (map (λ (e : Entry). record e { copy = g e.copy }) es)
 falls_in_each g until [] f = tt
 falls_in_each g until (e ∷ es) f = (f.0, falls_in_each g e.moment es f.1)
 
--- the moments of the copies that a horizon leaves
+-- the moments of the copies that a horizon leaves still decrease
 pub falls_pruned : (h until : ℤ) (es : List Entry) → FallingFrom until es → FallingFrom until (pruned h es)
 falls_pruned h until [] f = tt
 falls_pruned h until (e ∷ es) f = (f.0, either (int_le e.moment h) (falls_pruned h e.moment es f.1))
@@ -49,26 +49,26 @@ falls_pruned h until (e ∷ es) f = (f.0, either (int_le e.moment h) (falls_prun
     either true g = tt
     either false g = g
 
--- a clock that is not at the highest moment lies before it
+-- a clock that is not at the highest moment is before it
 before_end : (n : ℤ) → int_le high n ≡ false → n <ℤ high
 before_end n e = grind (arith, ints)
 
--- a state with other parts
+-- the state with these parts replaced
 abbrev pub state : State → List TableDef → List Entry → ℤ → Option Entry → State
 state base defs history next begun =
     record base { definitions = defs; history = history; next = next; transaction = begun }
 
--- the moments of what readers set aside fall
+-- the moments of the pinned copies decrease
 abbrev ReadersFall : State → Type 0
 ReadersFall s = (r : Reader) → In r s.readers → Falling r.pinned
 
--- none open
+-- a state without an open transaction is in order
 closed : (base : State) (defs : List TableDef) (history : List Entry) (next : ℤ) → Falling history
     → FallingFrom next history → ReadersFall base → IsInOrder (state base defs history next None)
 closed base defs history next f g p =
     record { falling = f; below_clock = g; opened = λ e q. absurd (cc); set_aside = p }
 
--- a transaction at the clock's moment
+-- a state with a transaction at the clock's moment is in order
 opened_at : (base : State) (defs : List TableDef) (history : List Entry) (next : ℤ) (copy : Copy) → next <ℤ high
     → FallingFrom next history → ReadersFall base
     → IsInOrder (state base defs history next (Some (record { moment = next; copy = copy })))
@@ -84,13 +84,13 @@ opened_at base defs history next copy h f p = record {
     moment_or None = next
     moment_or (Some e) = e.moment
 
--- a commit leaves the clock behind its moment
+-- a state after a commit, with the clock after the commit's moment, is in order
 just_after : (base : State) (defs : List TableDef) (history : List Entry) (next : ℤ) (e : Entry) → e.moment <ℤ high
     → FallingFrom e.moment history → ReadersFall base → IsInOrder (committed (state base defs history next None) e)
 just_after base defs history next e h f p =
     closed base defs (e ∷ history) (e.moment +ℤ pos 1) (h, f) (omega (arith, ints), f) p
 
--- another working copy
+-- a state with another working copy is in order
 still_open : (base : State) (defs : List TableDef) (history : List Entry) (next : ℤ) (w : Entry) (copy : Copy)
     → IsInOrder (state base defs history next (Some w))
     → IsInOrder (state base defs history next (Some (record { moment = w.moment; copy = copy })))
@@ -105,7 +105,7 @@ still_open base defs history next w copy o = record {
     moment_or None = next
     moment_or (Some x) = x.moment
 
--- each effect keeps the order of moments
+-- each effect preserves the order of moments
 effect_in_order : (base : State) (defs : List TableDef) (history : List Entry) (next : ℤ) (begun : Option Entry)
     (b : Bound)
     → state_faults (state base defs history next begun) (class_of b) ≡ []
@@ -171,15 +171,15 @@ effect_in_order base defs history next begun (Read n q) e o =
 effect_in_order base defs history next begun (AnswerQuery q) e o =
     asked_stays IsInOrder (state base defs history next begun) q _ o
 
--- each statement that is taken keeps it
+-- each accepted statement preserves it
 pub keeps_in_order : EffectKeeps IsInOrder
 keeps_in_order s t k o =
     effect_in_order s s.definitions s.history s.next s.transaction (bind s.definitions t).value k.free o
 
--- the first state has it
+-- the first state is in order
 pub first_in_order : IsInOrder new_state
 first_in_order = closed new_state [] [] _ tt tt (λ r m. absurd m)
 
--- so every state that a run reaches has it
+-- every state that a run reaches is in order
 pub reached_in_order : (s : State) → IsReached s → IsInOrder s
 reached_in_order s r = run_keeps IsInOrder keeps_in_order new_state r.pieces r.replies s r.run first_in_order

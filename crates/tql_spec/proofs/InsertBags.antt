@@ -1,4 +1,4 @@
--- An insertion does not see the order of the rows that it is given.
+-- An insertion does not depend on the order of the rows that it is given.
 use Rattle.std.proofs.Common.{◌≡◌, refl, sym, ◌∙◌, arith, List, [], ◌∷◌, map, flat_map, length}
 use Rattle.std.specs.List.{sum_by}
 use Rattle.std.proofs.lemmas.List.Sums.{sum_by-cons}
@@ -14,7 +14,7 @@ ones : {A : Type 0} (xs : List A) → sum_by (λ x. 1) xs ≡ length xs
 ones [] = refl
 ones (x ∷ xs) = omega (arith, sum_by-cons (λ x. 1) x xs, ones xs)
 
--- as many
+-- lists with the same bag have the same length
 pub same-length : {A : Type 0} {xs ys : List A} → SameBag xs ys → length xs ≡ length ys
 same-length {A} {xs} {ys} h = sym (ones xs) ∙ h.totals (λ x. 1) ∙ ones ys
 

@@ -1,4 +1,4 @@
--- Rows joined: each is one so far beside one of the next reference, or nulls, and it fits the wider scope.
+-- Joined rows: a row so far with a row of the next reference, or with nulls, fits the wider scope.
 use Rattle.std.proofs.Common.{◌≡◌, ◌≤◌, refl, sym, subst, ◌∙◌, ℕ, ◌+◌, Bool, true, false, List, [], ◌∷◌, ◌++◌, map}
 use Rattle.std.proofs.Common.{length, inl, inr, arith, length-append, get_or-append-add}
 use Rattle.std.specs.Prelude.{replicate, Option, Some, None}
@@ -19,7 +19,7 @@ use Rattle.tql_spec.proofs.BoundKinds.{kind_at_is}
 
 -- ---- members
 
--- what is kept was there
+-- a row that is kept is one of the rows
 pub in_filter_all : {X : Type 0} (test : X → Option Bool) (xs ys : List X) → filter_all test xs ≡ Some ys → (x : X)
     → In x ys → In x xs
 in_filter_all test [] ys e x m = let q : [] ≡ ys = cc in absurd (subst (In x) (sym q) m)
@@ -34,7 +34,7 @@ in_filter_all test (y ∷ xs) ys e x m = by_test (test y) (filter_all test xs) (
         let same : y ∷ zs ≡ ys = cc in elim (subst (In x) (sym same) m) [ inl z ↦ inl z | inr n ↦ inr (ih zs refl x n) ]
     by_test (Some false) (Some zs) ih q = let same : zs ≡ ys = cc in inr (ih zs refl x (subst (In x) (sym same) m))
 
--- two rows side by side
+-- a row made of two rows, each with its own property
 pub record IsPairOf (P Q : Row → Type 0) (z : Row) : Type 0 where
   pub left : Row
   pub right : Row
@@ -51,10 +51,10 @@ in_pairs P Q xs ys h k z m =
 
 -- ---- joins
 
--- a row joined from the left, and one of a reference or nulls
+-- a row from the left, with a row of a reference or with nulls
 module _ (P Q : Row → Type 0) (on : List Cond) (width : ℕ) (ys : List Row) (nulls : Q (replicate width Null))
     (right : (y : Row) → In y ys → Q y) where
-  -- LEFT
+  -- the rows of a LEFT join have this form
   pub left_pairs : (xs : List Row) → ((x : Row) → In x xs → P x) → (out : List Row)
       → left_join on width xs ys ≡ Some out
       → (z : Row) → In z out → IsPairOf P Q z
@@ -89,16 +89,16 @@ module _ (P Q : Row → Type 0) (on : List Cond) (width : ℕ) (ys : List Row) (
             | inr n ↦ ih n
           ]
 
--- a row so wide, of the kinds of the scope
+-- a row of this width that fits the scope
 pub record Wide (scope : List Known) (width : ℕ) (row : Row) : Type 0 where
   pub many : length row ≡ width
   pub fits : FitsScope scope row
 
--- references within so many columns
+-- the columns of all references are within this width
 abbrev pub Within : List Known → ℕ → Type 0
 Within scope width = (k : Known) → In k scope → k.offset + length k.columns ≤ width
 
--- a row of a table fits its reference
+-- a row of a table, after other cells, fits its reference
 row_fits : (k : Known) (x y : Row) → k.offset ≡ length x → AreOfKinds (column_kinds k.columns) y → FitsKnown (x ++ y) k
 row_fits k x y e h i l =
     subst (λ j. IsOfKind (Some (kind_at k.columns i)) (cell (x ++ y) (j + i))) (sym e)
@@ -106,14 +106,14 @@ row_fits k x y e h i l =
     (subst (λ c. IsOfKind (Some c) (cell y i)) (sym (kind_at_is k.columns i))
     (cell_kind (column_kinds k.columns) y h i)))
 
--- what fits a reference before fits it in a longer row
+-- a row that fits a reference still fits it with more cells at the end
 pub longer_fits : (k : Known) (x y : Row) → k.offset + length k.columns ≤ length x → FitsKnown x k
     → FitsKnown (x ++ y) k
 longer_fits k x y w h i l =
     subst (IsOfKind (Some (kind_at k.columns i))) (sym (get_or-append x y Null (k.offset + i) (omega arith)))
     (h i l)
 
--- one reference more
+-- a row with one more reference fits the wider scope
 pub wider : (scope : List Known) (width : ℕ) (k : Known) (x y : Row) → Within scope width → Wide scope width x
     → k.offset ≡ width
     → AreOfKinds (column_kinds k.columns) y → Wide (scope ++ k ∷ []) (width + length k.columns) (x ++ y)
@@ -137,7 +137,7 @@ wider scope width k x y n w e h = record {
   };
 }
 
--- and within the new width
+-- the wider scope is within the new width
 pub within_more : (scope : List Known) (width : ℕ) (k : Known) → Within scope width → k.offset ≡ width
     → Within (scope ++ k ∷ []) (width + length k.columns)
 within_more scope width k n e j m = elim (in_either j scope (k ∷ []) m) [

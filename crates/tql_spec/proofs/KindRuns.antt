@@ -1,4 +1,4 @@
--- Statements keep the kinds of rows, so in every state that a run reaches rows are of their tables' kinds.
+-- Statements preserve the kinds of rows; in every state that a run reaches, rows are of their tables' kinds.
 use Rattle.std.proofs.Common.{◌≡◌, refl, sym, subst, ℕ, zero, suc, Bool, true, false, List, [], ◌∷◌, ◌++◌, map, filter}
 use Rattle.std.proofs.Common.{length, inl, inr, arith}
 use Rattle.std.specs.Prelude.{◌&&◌, not, remove, slice_set, ℤ, int_le, int_lt, if◌then◌else◌, Option, Some, None}
@@ -31,19 +31,19 @@ use Rattle.tql_spec.proofs.RowKinds.{same_kinds, generated_same}
 use Rattle.tql_spec.proofs.RowChanges.{Good, AllGood}
 use Rattle.tql_spec.proofs.ChangeKinds.{change_good}
 
--- ---- what queries find
+-- ---- the rows that queries find
 
--- a row of some copy
+-- the row is in some copy
 record IsKept (t : ℕ) (es : List Entry) (r : Stamped) : Type 0 where
   entry : Entry
   among : In entry es
   there : In r (rows_in entry.copy t)
 
--- of one more copy
+-- a row of some copy is a row of some copy with one more copy in front
 kept_later : (t : ℕ) (e : Entry) (es : List Entry) (r : Stamped) → IsKept t es r → IsKept t (e ∷ es) r
 kept_later t e es r k = record { entry = k.entry; among = inr k.among; there = k.there }
 
--- a version of a row
+-- the row of a version of the first copy is in some copy
 completed_row : (ends : Stamped → ℤ) (t : ℕ) (e : Entry) (es : List Entry) (v : Version)
     → In v (completed ends (rows_in e.copy t))
     → IsKept t (e ∷ es) v.row
@@ -86,7 +86,7 @@ found_kept t until ends a b (e ∷ es) v i = elim (in_either v (filter (λ w. no
     either true n = completed_row ends t e es v n
     either false n = absurd n
 
--- what a query finds is a row of some copy
+-- the row of each version that a query finds is in some copy
 question_kept : (t : ℕ) (w : When) (es : List Entry) (v : Version) → In v (found w (table_history t es))
     → IsKept t es v.row
 question_kept t Now [] v i = absurd i
@@ -95,7 +95,7 @@ question_kept t (AsOf m) es v i = as_of_kept t _ still m es v i
 question_kept t (FromTo a b) es v i = found_kept t _ still a b es v i
 question_kept t (Between a b) es v i = found_kept t _ still a _ es v i
 
--- so the references of a query have rows of their tables' kinds
+-- the references of a query have rows of their tables' kinds
 bag_typed : (s : State) → RowsAreTyped s → IsTypedBag s.definitions (bag_of s)
 bag_typed s h r row m =
     let d : TableDef = table_at s.definitions r.table in
@@ -106,21 +106,21 @@ bag_typed s h r row m =
     (generated_same d.system i.0.row.cells i.0.row.start high i.0.row.start i.0.end)
     (h k.entry k.among r.table i.0.row k.there))
 
--- the law that readers see
+-- the law: the rows that queries find are typed
 pub bags_typed : BagsAreTyped
 bags_typed s h = bag_typed s h.rows
 
 -- ---- the rows of a copy
 
--- each row is good
+-- each row of each table is good
 abbrev CopyGood : List TableDef → Copy → Type 0
 CopyGood defs copy = (t : ℕ) → AllGood (table_at defs t) (rows_in copy t)
 
--- in each copy
+-- the rows of each copy are good
 abbrev EntriesGood : List TableDef → List Entry → Type 0
 EntriesGood defs es = (e : Entry) → In e es → CopyGood defs e.copy
 
--- one definition more
+-- one more typed definition leaves all definitions typed
 defined_more : (defs : List TableDef) (d : TableDef) → AreTypedDefinitions defs → IsTypedDefinition d
     → AreTypedDefinitions (defs ++ d ∷ [])
 defined_more [] d h k zero = k
@@ -128,7 +128,7 @@ defined_more [] d h k (suc t) = h (suc t)
 defined_more (x ∷ defs) d h k zero = h zero
 defined_more (x ∷ defs) d h k (suc t) = defined_more defs d (λ i. h (suc i)) k t
 
--- one table more
+-- the rows stay good with one more table
 good_more : (defs : List TableDef) (d : TableDef) (copy : Copy) → length copy ≡ length defs → CopyGood defs copy
     → CopyGood (defs ++ d ∷ []) (copy ++ [] ∷ [])
 good_more defs d copy n h t r m =
@@ -136,18 +136,18 @@ good_more defs d copy n h t r m =
     let within = there_within copy t r there in
     subst (λ (x : TableDef). Good x r) (sym (get_or-append defs (d ∷ []) no_table t (omega arith))) (h t r there)
 
--- one less
+-- the rows stay good with one table removed
 good_less : (defs : List TableDef) (k : ℕ) (copy : Copy) → CopyGood defs copy → CopyGood (remove defs k) (remove copy k)
 good_less defs k copy h t r m =
     subst (λ (x : TableDef). Good x r) (sym (removed_at defs k t no_table))
     (h (skip k t) r (subst (λ xs. In r xs) (removed_at copy k t []) m))
 
--- the newest copy
+-- the rows of the newest copy are good
 newest_good : (defs : List TableDef) (es : List Entry) → EntriesGood defs es → CopyGood defs (newest_copy defs es)
 newest_good defs [] h t r m = absurd (subst (λ xs. In r xs) (no_rows defs t) m)
 newest_good defs (e ∷ es) h t r m = h e (inl refl) t r m
 
--- what is done to every copy
+-- the rows stay good after the same change of every copy
 good_in_each : (g : Copy → Copy) (new : List TableDef) (es : List Entry)
     → ((e : Entry) → In e es → CopyGood new (g e.copy))
     → EntriesGood new (map (λ (e : Entry). record e { copy = g e.copy }) es)
@@ -155,13 +155,13 @@ good_in_each g new es k e m =
     let i = in_image (λ (x : Entry). record x { copy = g x.copy }) e es m in subst
     (λ (x : Entry). CopyGood new x.copy) (sym i.2) (k i.0 i.1)
 
--- one more entry
+-- the rows are good with one more entry in front
 first_good : (defs : List TableDef) (e : Entry) (es : List Entry) → CopyGood defs e.copy → EntriesGood defs es
     → EntriesGood defs (e ∷ es)
 first_good defs e es h k x (inl q) = subst (λ (y : Entry). CopyGood defs y.copy) (sym q) h
 first_good defs e es h k x (inr m) = k x m
 
--- a change in one copy
+-- the rows stay good after a change of one table in a copy
 changed_good : (s : State) (m : ℤ) (copy : Copy) (c : Change) → AreTypedDefinitions s.definitions
     → IsTypedBag s.definitions (bag_of s)
     → IsTypedChange s.definitions c → CopyGood s.definitions copy → (outcome s m copy c).faults ≡ []
@@ -175,15 +175,15 @@ changed_good s m copy c d b k h f t = elim (rows_set copy (changed_table c) (out
 
 -- ---- statements and runs
 
--- definitions and rows
+-- the definitions are typed, and the rows are good
 abbrev Both : State → Type 0
 Both s = AreTypedDefinitions s.definitions × EntriesGood s.definitions (entries s)
 
--- the kinds of the rows of a state
+-- the rows of a state are typed
 rows_typed : (s : State) → Both s → RowsAreTyped s
 rows_typed s h e m t r i = (h.1 e m t r i).typed
 
--- each effect keeps it
+-- each effect preserves this
 effect_good : (base : State) (defs : List TableDef) (history : List Entry) (next : ℤ) (begun : Option Entry) (b : Bound)
     → state_faults (state base defs history next begun) (class_of b) ≡ [] → IsTypedBound defs b
     → CopiesFit (state base defs history next begun)
@@ -233,7 +233,7 @@ effect_good base defs history next (Some w) (ChangeRows c) e g f h =
 effect_good base defs history next begun (AnswerQuery q) e g f h =
     asked_stays Both (state base defs history next begun) q _ h
 
--- a state by these
+-- a state with fitting copies is then typed
 typed_state : (s : State) → CopiesFit s → Both s → IsTypedState s
 typed_state s f h = record {
   definitions = h.0;
@@ -242,7 +242,7 @@ typed_state s f h = record {
   periods = λ e m t r i. (h.1 e m t r i).period;
 }
 
--- each effect that the state does not refuse keeps it
+-- each effect that the state does not refuse preserves that the state is typed
 effect_typed : (s : State) (b : Bound) → state_faults s (class_of b) ≡ [] → IsTypedState s
     → IsTypedBound s.definitions b
     → IsTypedState (effect s b).1
@@ -251,7 +251,7 @@ effect_typed s b e h k = typed_state (effect s b).1
     (effect_good s s.definitions s.history s.next s.transaction b e k h.copies
     (h.definitions, λ x m t r i. record { typed = h.rows x m t r i; period = h.periods x m t r i }))
 
--- so does a step
+-- the law: steps preserve that the state is typed
 pub steps_keep : StepsKeepTypes
 steps_keep = record {
   steps = λ s b h k. unless_either IsTypedState (first (limit_faults s b ++ state_faults s (class_of b))) s
@@ -263,12 +263,12 @@ steps_keep = record {
   effects = effect_typed;
 }
 
--- no definitions and no rows
+-- the first state is typed
 pub first_typed : IsTypedState new_state
 first_typed = typed_state new_state (λ e m. absurd m)
     (λ t. record { system = λ s q. absurd (cc); application = λ a q. absurd (cc) }, λ e m. absurd m)
 
--- in every state that a run reaches
+-- the law: every state that a run reaches is typed
 pub reached_typed : BoundAreTyped → ReachedAreTyped
 reached_typed b s r = run_keeps IsTypedState
     (λ x t k h. effect_typed x (bind x.definitions t).value k.free h (b x.definitions t k.sound))

@@ -1,5 +1,5 @@
--- In the order of report the faults of names, kinds, forms and literals stand behind those of the transaction and the
--- clock.
+-- In the order of report, the faults of names, kinds, forms and literals come after those of the transaction, the clock
+-- and open readers.
 use Rattle.std.specs.Prelude.{◌≡◌, refl, ◌<◌, ℕ, ℤ, Bool, true, false, not, ◌||◌, is_some, is_none, nat_lt, List, []}
 use Rattle.std.specs.Prelude.{◌∷◌, map, Option, Some, None, ⊤, if◌then◌else◌}
 use Rattle.std.proofs.Common.{arith}
@@ -236,7 +236,7 @@ assignment_late d s = number_late (names_of d) s.column ⊗ cell_late (own_scope
 
 -- ---- statements
 
--- so do the faults of each statement
+-- each fault of a bound statement comes late
 pub bind_late : (defs : List TableDef) (t : Statement) → AreLate (bind defs t).faults
 bind_late defs (CreateTree n e es versioned) = create_late defs n (e ∷ es) versioned ⊗ none
 bind_late defs (DropTree n) = table_late defs n ⊗ referenced _
@@ -269,7 +269,7 @@ bind_late defs (CloseTree n) = none
 
 -- ---- the first fault
 
--- a fault, if there is one, that stands behind those of the transaction and the clock
+-- a fault, if there is one, comes after those of the transaction, the clock and open readers
 abbrev pub MayBeLate : Option Refusal → Type 0
 MayBeLate None = ⊤
 MayBeLate (Some e) = is_late e ≡ true
@@ -289,7 +289,7 @@ first_late (a ∷ fs) h = earlier_late a (first fs) h.each.0 (first_late fs (rec
 not_sooner : (m n : ℕ) → m < 9 → nat_lt 8 n ≡ true → nat_lt n m ≡ false
 not_sooner m n h k = grind (arith, nat_tests)
 
--- a fault of the transaction or the clock stays the first
+-- a fault of the transaction, the clock or open readers stays the first
 pub earlier_stays : (a : Refusal) (o : Option Refusal) → place a < 9 → MayBeLate o → earlier a o ≡ a
 earlier_stays a None h k = refl
 earlier_stays a (Some e) h k = rw (not_sooner (place a) (place e) h k)

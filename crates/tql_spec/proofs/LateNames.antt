@@ -1,4 +1,4 @@
--- In the order of report the faults of expressions and conditions stand behind those of the transaction and the clock.
+-- In the order of report, the faults of expressions and conditions come after those of the state.
 use Rattle.std.specs.Prelude.{◌≡◌, refl, ℤ, Bool, true, false, nat_lt, List, [], ◌∷◌, ◌++◌, Option, Some, None}
 use Rattle.std.specs.List.{AllByRecursion}
 use Rattle.tql_spec.specs.Datum.{Datum, Kind, Plus, Minus, Times}
@@ -21,11 +21,11 @@ use Rattle.tql_spec.specs.Names.{signed, primary, sole_name, Ends, one_period, s
 use Rattle.tql_spec.specs.Names.{operand, in_list, contained_point, contained_named, contained, condition, more_conjs}
 use Rattle.tql_spec.specs.Names.{conj, more_tests, factor, test, factors_of, conjuncts, optional_conjuncts}
 
--- a fault stands behind those of the transaction and the clock
+-- whether a fault comes after those of the transaction, the clock and open readers
 abbrev pub is_late : Refusal → Bool
 is_late e = nat_lt 8 (place e)
 
--- each of the faults does so
+-- each of these faults comes late
 pub record AreLate (faults : List Refusal) : Type 0 where
   pub each : AllByRecursion (λ e. is_late e ≡ true) faults
 

@@ -1,4 +1,4 @@
--- The statements of a script stand where they are said to.
+-- The placed statements of a script are at their places.
 use Rattle.std.proofs.Common.{◌≡◌, refl, sym, ◌∙◌, ap, ℕ, ◌==◌, Bool, true, false, cond, List, [], ◌∷◌, ◌++◌}
 use Rattle.std.proofs.Common.{append_assoc}
 use Rattle.std.specs.Prelude.{◌&&◌, ◌||◌, not, map, filter, if◌then◌else◌}
@@ -12,7 +12,7 @@ use Rattle.tql_spec.specs.Lines.{Placed, lead, placed_behind, placed_from, Stand
 
 -- ---- the statements
 
--- whether a statement holds anything
+-- whether a statement has any text
 abbrev is_filled : Placed → Bool
 is_filled p = not (is_empty p.piece.text)
 
@@ -39,14 +39,14 @@ pieces_behind before (p ∷ ps) = by (is_filled_piece (trimmed p)) (pieces_behin
   by true e = ap (λ (qs : List Piece). trimmed p ∷ qs) e
   by false e = e
 
--- wherever bytes stand, their statements are the same
+-- the statements of bytes do not depend on their place
 pub pieces_placed : (before bytes : List ℕ)
     → map (λ (p : Placed). p.piece) (placed_from before bytes) ≡ statements bytes
 pieces_placed before bytes = pieces_behind before (cut Outside bytes)
 
 -- ---- their places
 
--- a text is its lead and what is left without it
+-- a text is its leading blanks and comments followed by the rest
 pub lead_parts : (in_comment : Bool) (bs : List ℕ) → lead in_comment bs ++ without_lead in_comment bs ≡ bs
 lead_parts in_comment [] = refl
 lead_parts true (b ∷ bs) = ap (λ (z : List ℕ). b ∷ z) (lead_parts (not (b == 10)) bs)
@@ -57,12 +57,12 @@ lead_parts false (b ∷ bs) = by (is_blank b || begins_comment b bs) (lead_parts
   by true e = ap (λ (z : List ℕ). b ∷ z) e
   by false e = refl
 
--- pieces behind a `;`, each but the first behind one more
+-- the bytes of the pieces, with a `;` before each
 abbrev behind : List Piece → List ℕ
 behind [] = []
 behind (p ∷ ps) = 59 ∷ p.text ++ behind ps
 
--- the same without the first `;`
+-- the bytes of the pieces, with a `;` between them
 abbrev together : List Piece → List ℕ
 together [] = []
 together (p ∷ ps) = p.text ++ behind ps
@@ -86,7 +86,7 @@ behind_cut p (b ∷ bs) = by ((b == 59) && can_end p) where
   by true = refl
   by false = behind_with b (cut (state_after p b) bs)
 
--- what is cut is all of it
+-- the cut pieces together are the bytes
 together_cut : (p : ScanState) (bs : List ℕ) → together (cut p bs) ≡ bs
 together_cut p [] = refl
 together_cut p (b ∷ bs) = by ((b == 59) && can_end p) refl (together_cut (state_after p b) bs) where
@@ -98,7 +98,7 @@ together_cut p (b ∷ bs) = by ((b == 59) && can_end p) refl (together_cut (stat
       behind_cut (state_after p b) bs ∙ ap (λ (z : List ℕ). 59 ∷ z) e ∙ ap (λ (z : ℕ). z ∷ bs) same
   by false q e = together_with b (cut (state_after p b) bs) ∙ ap (λ (z : List ℕ). b ∷ z) e
 
--- the pieces stand in the script behind these bytes
+-- the script is the bytes `before` and then the bytes of the pieces
 abbrev Follow : List ℕ → List ℕ → List Piece → Type 0
 Follow script before [] = Unit {0}
 Follow script before (p ∷ ps) = script ≡ before ++ p.text ++ behind ps

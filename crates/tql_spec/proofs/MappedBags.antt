@@ -1,4 +1,4 @@
--- What is weighed of the values that a function gives of each element, and where it gives none.
+-- Sums over the values that a function gives for the elements of a list, and over the elements without a value.
 use Rattle.std.proofs.Common.{◌≡◌, ◌<◌, ℕ, ◌+◌, List, [], ◌∷◌, refl, sym, ap, ◌∙◌, arith}
 use Rattle.std.specs.Prelude.{Option, Some, None}
 use Rattle.std.specs.List.{sum_by}
@@ -6,18 +6,18 @@ use Rattle.std.proofs.lemmas.List.Sums.{sum_by-cons}
 use Rattle.tql_spec.specs.Words.{map_all}
 use Rattle.tql_spec.proofs.Steady.{front_is}
 
--- one for an element that gives nothing
+-- 1 for an element without a value, else 0
 abbrev pub lack_of : {B : Type 0} → Option B → ℕ
 lack_of None = 1
 lack_of (Some y) = 0
 
--- the weight of what an element gives
+-- the weight of an element's value; 0 if there is none
 abbrev pub weight_of : {B : Type 0} → (B → ℕ) → Option B → ℕ
 weight_of w None = 0
 weight_of w (Some y) = w y
 
 module _ {A B : Type 0} (f : A → Option B) where
-  -- what is weighed of all is weighed of each
+  -- the weight of all values is the sum over the elements
   pub all_total : (w : B → ℕ) (xs : List A) (ys : List B) → map_all f xs ≡ Some ys
       → sum_by w ys ≡ sum_by (λ x. weight_of w (f x)) xs
   all_total w [] ys e = let q : [] ≡ ys = cc in ap (sum_by w) (sym q)
@@ -29,7 +29,7 @@ module _ {A B : Type 0} (f : A → Option B) where
       ∙ ap (λ o. weight_of w o + sum_by (λ z. weight_of w (f z)) xs) (sym k.one)
       ∙ sym (sum_by-cons (λ z. weight_of w (f z)) x xs)
 
-  -- where all give something none lacks
+  -- if all elements have a value, none lacks one
   pub none_lacks : (xs : List A) (ys : List B) → map_all f xs ≡ Some ys → sum_by (λ x. lack_of (f x)) xs ≡ 0
   none_lacks [] ys e = refl
   none_lacks (x ∷ xs) ys e =
@@ -38,7 +38,7 @@ module _ {A B : Type 0} (f : A → Option B) where
       let here : lack_of (f x) ≡ 0 = ap lack_of k.one in
       omega (arith, sum_by-cons (λ z. lack_of (f z)) x xs, here, later)
 
-  -- else some does
+  -- else some element lacks one: the step for one more element in front
   by_front : (x : A) (xs : List A) (o : Option B) (rest : Option (List B)) → f x ≡ o → map_all f xs ≡ rest
       → map_all f (x ∷ xs) ≡ None
       → (map_all f xs ≡ None → 0 < sum_by (λ z. lack_of (f z)) xs) → 0 < sum_by (λ z. lack_of (f z)) (x ∷ xs)

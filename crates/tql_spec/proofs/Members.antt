@@ -1,4 +1,4 @@
--- Sums over members, and rows that are one.
+-- Sums over members, and equality of rows.
 use Rattle.std.proofs.Common.{◌≡◌, ◌≤◌, ◌<◌, ℕ, ◌+◌, Bool, true, false, cond, List, [], ◌∷◌, refl, sym, ap, ◌∙◌, arith}
 use Rattle.std.proofs.Common.{inl, inr}
 use Rattle.std.specs.Prelude.{◌⊎◌, ◌&&◌, ◌||◌, ℤ, ◌≤ℤ◌, ◌<ℤ◌, int_le, int_lt, ltb}
@@ -53,7 +53,7 @@ any-total p [] = refl
 any-total p (x ∷ xs) = ap (λ b. p x || b) (any-total p xs) ∙ any-step (p x) _
     ∙ ap (ltb 0) (sym (sum_by-cons (λ y. cond (p y) 1 0) x xs))
 
--- ---- rows that are one
+-- ---- equality of rows
 
 pub same-self : (a : Datum) → same a a ≡ true
 same-self Null = refl
@@ -120,7 +120,7 @@ same_stamped-is a b e =
     ap2 p q = ap (λ (x : List Datum). record { cells = x; start = a.start }) p
         ∙ ap (λ (s : ℤ). record { cells = b.cells; start = s }) q
 
--- ---- a member among those that a test of rows picks
+-- ---- a member that passes a test of rows
 
 above : (n : ℕ) → 0 < n → ltb 0 n ≡ true
 above n h = grind (arith, nat_tests)

@@ -1,4 +1,4 @@
--- The moments that literals read as lie in the calendar.
+-- Literals that read as moments are in the calendar.
 use Rattle.std.specs.Prelude.{◌≡◌, refl, ℕ, zero, suc, ◌+◌, ◌-◌, ◌*◌, ◌<◌, ◌≤◌, Bool, true, false, cond, ◌&&◌, ◌==◌}
 use Rattle.std.specs.Prelude.{nat_le, nat_lt, List, [], ◌∷◌, length, drop, ℤ, ◌≤ℤ◌}
 use Rattle.std.specs.Prelude.{Option, Some, None}
@@ -40,7 +40,7 @@ less a b e = grind (arith, nat_tests)
 
 -- ---- days
 
--- the days of the first months are not more than those of more months
+-- the number of days in the first months grows with the number of months
 upto : (y top m : ℕ) → m ≤ top → days_before_month y m ≤ days_before_month y top
 upto y zero zero h = omega arith
 upto y zero (suc m) h = absurd (omega arith)
@@ -49,7 +49,7 @@ upto y (suc t) m h = by_bool (nat_le m t)
     (λ e. let same : m ≡ suc t = grind (arith, nat_tests) in
     subst (λ n. n ≤ days_before_month y (suc t)) (ap (days_before_month y) (sym same)) (omega arith))
 
--- the days of a year
+-- the number of days of a year
 year_length : (y : ℕ) (b : Bool) → is_leap y ≡ b → days_before_month y 12 ≡ 365 + cond b 1 0
 year_length y true e = rw e refl
 year_length y false e = rw e refl
@@ -64,7 +64,7 @@ in_year y (suc k) d b e low up h =
     let k2 = year_length y b e in
     rw back (omega (arith, k1, k2))
 
--- the year 9999 is no leap year
+-- a day of a year up to 9999 is in the calendar; 9999 is not a leap year
 days_below : (y n : ℕ) (b : Bool) → is_leap y ≡ b → 1 ≤ y → y ≤ 9999 → n ≤ 365 + cond b 1 0
     → days_before_year y + n ≤ day_count
 days_below y n true e low up h = by_bool (nat_le y 9998)
@@ -90,7 +90,7 @@ date_below y m d e =
     (at_most y 9999 g.1) n in
     omega (arith, first, all)
 
--- what is read at the start of a text is a day of the calendar
+-- a date read at the start of a text is in the calendar
 days_read : (bs : List ℕ) (n : ℕ) → days_at_start bs ≡ Some n → n < day_count
 days_read bs n e =
     let y = then_is (digits_at bs 0 4) _ n e in
@@ -102,7 +102,7 @@ days_read bs n e =
 
 -- ---- times
 
--- one digit more
+-- a digit is at most 9
 digit : (b : ℕ) → is_digit b ≡ true → b - 48 ≤ 9
 digit b e = let t = both (nat_le 48 b) (nat_le b 57) e in
     let low = at_most 48 b t.0 in let up = at_most b 57 t.1 in omega (arith, low, up)
@@ -112,7 +112,7 @@ six_below : (a b c d e f : ℕ) → a ≤ 9 → b ≤ 9 → c ≤ 9 → d ≤ 9 
     → 10 * (10 * (10 * (10 * (10 * (10 * 0 + a) + b) + c) + d) + e) + f < 1_000_000
 six_below a b c d e f ha hb hc hd he hf = omega arith
 
--- digits, and zeros where they end
+-- the microseconds of a fraction are below a million
 six_of : (ds : List ℕ) → list_all is_digit ds ≡ true → micros_of ds < 1_000_000
 six_of [] h = omega arith
 six_of (a ∷ []) h =

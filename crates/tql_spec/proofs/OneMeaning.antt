@@ -1,4 +1,4 @@
--- Where a token list spells one statement at most, a piece has one sense, so that runs agree.
+-- If a token list spells at most one statement, a piece has one sense, and runs agree.
 use Rattle.std.proofs.Common.{◌≡◌, ◌<◌, ◌≤◌, refl, sym, ap, subst, ◌∙◌, Bool, true, false, List, [], ◌∷◌, length, inl}
 use Rattle.std.proofs.Common.{inr, arith}
 use Rattle.std.specs.Prelude.{◌⊎◌, IsTrue, IsFalse, IsUtf8}
@@ -14,7 +14,7 @@ use Rattle.tql_spec.specs.Run.{respond_to}
 use Rattle.tql_spec.specs.Meaning.{SensesAreOne, RunsAgree}
 use Rattle.tql_spec.proofs.TokenLaws.{one_list}
 
--- one of two cases that exclude each other, each of which tells what is there
+-- two values are equal if both satisfy the same of two exclusive cases, and each case determines the value
 either_once : {S A B : Type 0} (x : S) (R : S → Type 0) → (A → B → ⊥) → ((s t : S) → R s → R t → s ≡ t) → (s t : S)
     → (A × (s ≡ x)) ⊎ (B × R s) → (A × (t ≡ x)) ⊎ (B × R t) → s ≡ t
 either_once x R apart once s t (inl h) (inl k) = h.1 ∙ sym k.1
@@ -22,13 +22,13 @@ either_once x R apart once s t (inl h) (inr k) = absurd (apart h.0 k.0)
 either_once x R apart once s t (inr h) (inl k) = absurd (apart k.0 h.0)
 either_once x R apart once s t (inr h) (inr k) = once s t h.1 k.1
 
--- a test does not tell both
+-- a test is not both false and true
 never_both : (b : Bool) → IsFalse b → IsTrue b → ⊥
 never_both true e f = cc
 never_both false e f = cc
 
 module _ (once : SpellsOnce) (p : Piece) where
-  -- the faults of a piece, one behind another
+  -- the senses of a piece that spells a statement, by its width; then the faults of a piece, from the last to the first
   abbrev Wide : Statement → Sense → Type 0
   Wide s a = (IsFalse (is_too_wide s) × (a ≡ Says s)) ⊎ (IsTrue (is_too_wide s) × (a ≡ Faulty TooManyColumnsOrTables))
 
@@ -95,11 +95,11 @@ module _ (once : SpellsOnce) (p : Piece) where
       (either_once (Faulty NotAStatement) Spells (λ n m. m n) one_spelling))))
       a b (graded a h) (graded b k)
 
--- a piece has one sense, where a token list spells one statement at most
+-- a piece has one sense, if a token list spells at most one statement
 pub senses_are_one : SpellsOnce → SensesAreOne
 senses_are_one once = one_sense once
 
--- two answers that are not out of memory
+-- two answers to a piece that are not out of memory are the same
 answers_agree : SpellsOnce → (old : State) (p : Piece) (r r' : Reply) (new new' : State) → Answers old p r new
     → Answers old p r' new' → (r ≡ Refused OutOfMemory → ⊥) → (r' ≡ Refused OutOfMemory → ⊥)
     → ◌≡◌ {A = Reply × State} (r, new) (r', new')
@@ -108,7 +108,7 @@ answers_agree once old p r r' new new' (inl (a, h, e)) (inl (b, k, f)) n m =
 answers_agree once old p r r' new new' (inl h) (inr k) n m = absurd (m k.0)
 answers_agree once old p r r' new new' (inr h) k n m = absurd (n h.0)
 
--- two runs agree piece by piece, where a token list spells one statement at most
+-- two runs agree, if a token list spells at most one statement
 pub runs_agree : SpellsOnce → RunsAgree
 runs_agree once old new new' [] [] [] r r' n m = (refl, r ∙ sym r')
 runs_agree once old new new' (p ∷ ps) (x ∷ xs) (y ∷ ys) (mid, a, rest) (mid', a', rest') n m =

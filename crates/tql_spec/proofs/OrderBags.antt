@@ -1,4 +1,4 @@
--- Rows that tie are one, so a bag has one list in order, for any keys; and a bag without repeats is one.
+-- Rows that tie are equal, so a bag has one list in order, for any keys; and a bag has one bag without repeats.
 use Rattle.std.proofs.Common.{◌≡◌, ℕ, Bool, true, false, List, [], ◌∷◌, refl, sym, ◌∙◌, arith}
 use Rattle.std.specs.List.{sum_by}
 use Rattle.std.specs.Cmp.{IsTotalOrder}
@@ -17,7 +17,7 @@ use Rattle.tql_spec.proofs.Orders.{one_in_order, placed_ascends, placed_bag}
 
 -- ---- the order by keys
 
--- an order or its reverse is total
+-- the reverse of a total order is total
 directed_total : {A : Type 0} (falls : Bool) (R : A → A → Ordering) → IsTotalOrder R
     → IsTotalOrder (λ a b. directed falls (R a b))
 directed_total false R o = o
@@ -34,7 +34,7 @@ by_keys_total (k ∷ ks) =
 pub row_order_total : (keys : List OrderKey) → IsTotalOrder (row_order keys)
 row_order_total keys = then_total (by_keys_total keys) by_columns-total
 
--- rows that tie are one
+-- rows that tie are equal
 pub row_order_ties : (keys : List OrderKey) (a b : Row) → row_order keys a b ≡ Equal → a ≡ b
 row_order_ties keys a b e = by_columns-ties a b (then_second (by_keys keys a b) (by_columns a b) e)
 

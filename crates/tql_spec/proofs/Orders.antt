@@ -18,7 +18,7 @@ use Rattle.tql_spec.specs.Query.{by_columns, placed}
 
 -- ---- values
 
--- the number of a value that is one
+-- the number of a value; 0 for null and texts
 number_key : Datum → ℤ
 number_key Null = pos 0
 number_key (Int n) = n
@@ -26,7 +26,7 @@ number_key (Text t) = pos 0
 number_key (Day d) = d
 number_key (Moment m) = m
 
--- the bytes of a value that is a text
+-- the bytes of a text; empty for other values
 text_key : Datum → List ℕ
 text_key Null = []
 text_key (Int n) = []
@@ -34,7 +34,7 @@ text_key (Text t) = t
 text_key (Day d) = []
 text_key (Moment m) = []
 
--- the order by kind, number and bytes
+-- the order by kind, then number, then bytes
 by_parts : Datum → Datum → Ordering
 by_parts = then_cmp (on rank nat_cmp) (then_cmp (on number_key int_cmp) (on text_key (slice_cmp nat_cmp)))
 
@@ -112,7 +112,7 @@ lists_tie R t (x ∷ xs) (y ∷ ys) e =
     let h : x ≡ y = t x y (then_first (R x y) (slice_cmp R xs ys) e) in
     let k : xs ≡ ys = lists_tie R t xs ys (then_second (R x y) (slice_cmp R xs ys) e) in cc
 
--- values that tie are one
+-- values that tie are equal
 pub order-ties : (a b : Datum) → order a b ≡ Equal → a ≡ b
 order-ties Null Null e = refl
 order-ties Null (Int b) e = cc
@@ -142,7 +142,7 @@ order-ties (Moment a) (Moment b) e = ap Moment (numbers_tie a b e)
 
 -- ---- rows
 
--- rows are compared from the left
+-- the order by columns is the lexicographic order
 pub by_columns-lists : (a b : Row) → by_columns a b ≡ slice_cmp order a b
 by_columns-lists [] [] = refl
 by_columns-lists [] (b ∷ bs) = refl
@@ -153,19 +153,19 @@ by_columns-lists (a ∷ as') (b ∷ bs) = ap (ordering_then (order a b)) (by_col
 pub by_columns-total : IsTotalOrder by_columns
 by_columns-total = total_along (slice_cmp order) by_columns by_columns-lists (lists_total order-total)
 
--- rows that tie are one
+-- rows that tie are equal
 pub by_columns-ties : (a b : Row) → by_columns a b ≡ Equal → a ≡ b
 by_columns-ties a b e = lists_tie order order-ties a b (sym (by_columns-lists a b) ∙ e)
 
 -- ---- lists in order
 
--- each element is not above the next
+-- the list is in ascending order: no element is above the next
 abbrev pub Ascends : {A : Type 0} → (A → A → Ordering) → List A → Type 0
 Ascends R [] = Unit {0}
 Ascends R (x ∷ []) = Unit {0}
 Ascends R (x ∷ y ∷ rest) = (is_gt (R x y) ≡ false) × Ascends R (y ∷ rest)
 
--- an element is not above those of a list
+-- the element is not above any element of the list
 abbrev IsBelow : {A : Type 0} → (A → A → Ordering) → A → List A → Type 0
 IsBelow R x [] = Unit {0}
 IsBelow R x (y ∷ ys) = (is_gt (R x y) ≡ false) × IsBelow R x ys
@@ -183,16 +183,16 @@ module _ {A : Type 0} (R : A → A → Ordering) (o : IsTotalOrder R) (ties : (a
   rest_ascends x [] a = tt
   rest_ascends x (y ∷ ys) a = a.1
 
-  -- 1 for the elements that tie with x
+  -- 1 for an element that ties with x, else 0
   mark : A → A → ℕ
   mark x y = if is_eq (R x y) then 1 else 0
 
-  -- what a first element adds to the marks
+  -- the marks of a list with one more element in front
   marks : (y z : A) (zs : List A) → sum_by (mark y) (z ∷ zs) ≡ (if is_eq (R y z) then 1 else 0) + sum_by (mark y) zs
   unfolding mark
   marks y z zs = sum_by-cons (mark y) z zs
 
-  -- x is not above y, if y is among the elements that it is below
+  -- if x is not above any element of a list with y, x is not above y
   not_above : (x y : A) (ys : List A) → IsBelow R x ys → 0 < sum_by (mark y) ys → is_gt (R x y) ≡ false
   not_above x y [] b h = absurd (let k : 0 < 0 = h in omega (arith, k))
   not_above x y (z ∷ zs) b h = elim (R y z) as (λ r. R y z ≡ r → is_gt (R x y) ≡ false) [
@@ -210,7 +210,7 @@ module _ {A : Type 0} (R : A → A → Ordering) (o : IsTotalOrder R) (ties : (a
   below_itself : (x : A) (xs : List A) → IsBelow R x xs → IsBelow R x (x ∷ xs)
   below_itself x xs b = (rw (tied_itself o x) refl, b)
 
-  -- two elements of which neither is above the other are one
+  -- two elements of which neither is above the other are equal
   neither : (x y : A) → is_gt (R x y) ≡ false → is_gt (R y x) ≡ false → x ≡ y
   neither x y g h = elim (R x y) as (λ r. R x y ≡ r → x ≡ y) [
     | Less ↦ λ e. let k : R y x ≡ Greater = o.antisymm y x ∙ rw e refl in
@@ -228,7 +228,7 @@ module _ {A : Type 0} (R : A → A → Ordering) (o : IsTotalOrder R) (ties : (a
   same_back : {xs ys : List A} → SameBag xs ys → SameBag ys xs
   same_back b = record { totals = λ w. sym (b.totals w) }
 
-  -- a bag has one list in order
+  -- lists in order with the same bag are equal
   pub one_in_order : (xs ys : List A) → Ascends R xs → Ascends R ys → SameBag xs ys → xs ≡ ys
   one_in_order [] [] a b s = refl
   one_in_order [] (y ∷ ys) a b s = absurd (never_empty y ys (same_back s))
@@ -243,7 +243,7 @@ module _ {A : Type 0} (R : A → A → Ordering) (o : IsTotalOrder R) (ties : (a
 
 -- ---- the order of answers
 
--- a list that is sorted by its places ascends
+-- a list that is sorted by positions is in ascending order
 pub sorted_ascends : {A : Type 0} (R : A → A → Ordering) → IsTotalOrder R → (xs : List A) → IsSorted R xs → Ascends R xs
 sorted_ascends R o [] s = tt
 sorted_ascends R o (x ∷ []) s = tt

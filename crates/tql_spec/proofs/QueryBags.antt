@@ -1,4 +1,4 @@
--- What is kept of rows, or made of each, does not see their order.
+-- Filtering and mapping rows do not depend on their order.
 use Rattle.std.proofs.Common.{◌≡◌, Bool, true, false, List, [], ◌∷◌, flat_map, refl, sym, ap, subst, ◌∙◌, arith}
 use Rattle.std.specs.Prelude.{Option, Some, None}
 use Rattle.std.proofs.lemmas.List.Concat.{flat_map-cons}
@@ -9,9 +9,9 @@ use Rattle.tql_spec.specs.QueryLaws.{SameRows}
 use Rattle.tql_spec.proofs.Bags.{same-flat_map, same-refl}
 use Rattle.tql_spec.proofs.MappedBags.{lack_of, weight_of, all_total, none_lacks, some_lacks}
 
--- ---- what each row gives
+-- ---- mapped rows
 
--- both are none, or the bags are the same
+-- both are None, or the bags are the same
 abbrev pub Same : {B : Type 0} → Option (List B) → Option (List B) → Type 0
 Same None None = Unit {0}
 Same (Some xs) (Some ys) = SameBag xs ys
@@ -29,9 +29,9 @@ mapped_same f xs others h (Some ys) (Some zs) e k = record {
   totals = λ w. all_total f w xs ys e ∙ h.totals (λ x. weight_of w (f x)) ∙ sym (all_total f w others zs k);
 }
 
--- ---- rows that are kept are rows that give themselves
+-- ---- filtering as a mapping to lists of at most one row
 
--- a row that is kept, or none
+-- a list of the row if it is kept, else the empty list
 abbrev itself : {A : Type 0} → A → Bool → List A
 itself x true = x ∷ []
 itself x false = []

@@ -1,4 +1,4 @@
--- The rows of a query have the kinds of its items, so each statement without a fault is bound to one that keeps kinds.
+-- The rows of a query have the kinds of its items, so the binding of each statement without a fault is typed.
 use Rattle.std.proofs.Common.{◌≡◌, ◌<◌, refl, sym, ap, subst, ◌∙◌, ℕ, ◌+◌, suc, Bool, true, false, List, [], ◌∷◌, ◌++◌}
 use Rattle.std.proofs.Common.{map, filter, length, inl, inr, arith}
 use Rattle.std.specs.Prelude.{not, Option, Some, None}
@@ -34,11 +34,11 @@ use Rattle.tql_spec.proofs.ChainKinds.{product_fits}
 
 -- ---- the select list
 
--- each output column gives values of its kind
+-- the values of each output column are of its kind
 abbrev AllKeep : List Known → List Output → Type 0
 AllKeep scope outs = (o : Output) → In o outs → Keeps scope o.typed
 
--- a column of the scope
+-- the values of a column in scope are of its kind
 column_keeps : (scope : List Known) (i : ℕ) (k : Kind)
     → ((row : Row) → FitsScope scope row → IsOfKind (Some k) (cell row i))
     → Keeps scope (typed (bound.Column i) k)
@@ -46,7 +46,7 @@ column_keeps scope i k h = record {
   of_kind = λ group row each own v e. let same : cell row i ≡ v = cc in subst (IsOfKind (Some k)) same (h row own);
 }
 
--- the columns of a reference
+-- the values of all columns of a reference are of their kinds
 columns_keep : (scope : List Known) (i : ℕ) (cs : List definition.Column)
     → ((row : Row) → FitsScope scope row → (j : ℕ) → j < length cs → IsOfKind (Some (kind_at cs j)) (cell row (i + j)))
     → AllKeep scope (all_columns_from i cs)
@@ -71,22 +71,22 @@ outputs_keep scope (TheseItems i is) o m = items_keep scope 1 (i ∷ is) o m
 
 -- ---- scopes of evaluation
 
--- a row and its group of rows that fit
+-- the row and the rows of its group fit the scope
 record Evaluates (scope : List Known) (s : Scope) : Type 0 where
   row : FitsScope scope s.row
   group : (r : Row) → In r s.group → FitsScope scope r
 
--- no cells are of every kind
+-- the empty row fits every scope
 empty_fits : (scope : List Known) → FitsScope scope []
 empty_fits scope = record { each = λ k m i l. tt }
 
--- a group of rows that fit
+-- a group of rows that fit has this property
 group_fits : (scope : List Known) (rows : List Row) → ((r : Row) → In r rows → FitsScope scope r)
     → Evaluates scope (of_group rows)
 group_fits scope [] h = record { row = empty_fits scope; group = h }
 group_fits scope (r ∷ rows) h = record { row = h r (inl refl); group = h }
 
--- each row or group
+-- each row or group of rows that fit has this property
 scopes_fit : (scope : List Known) (grouping : Option (List ℕ)) (rows : List Row)
     → ((r : Row) → In r rows → FitsScope scope r)
     → (s : Scope) → In s (scopes grouping rows) → Evaluates scope s
@@ -105,7 +105,7 @@ scopes_fit scope (Some (c ∷ cs)) rows h s m =
 
 -- ---- rows of a query
 
--- the values of the items on one of them
+-- the values of the items, evaluated on a row or group that fits, are of the kinds
 item_kinds : (scope : List Known) (ks : List Kind) (outs : List Output) → AllKeep scope outs
     → Fit ks (map (λ (o : Output). o.typed) outs)
     → (s : Scope) → Evaluates scope s
@@ -122,7 +122,7 @@ item_kinds scope (l ∷ ks) (o ∷ outs) h f s k values e =
       item_kinds scope ks outs (λ p n. h p (inr n)) f.1 s k x.tail x.more,
     )
 
--- what all are mapped to
+-- a value of a mapped list is the value of some element
 in_all : {A B : Type 0} (f : A → Option B) (y : B) (xs : List A) (ys : List B) → map_all f xs ≡ Some ys → In y ys
     → (x : A) × In x xs × (f x ≡ Some y)
 in_all f y [] ys e m = let q : [] ≡ ys = cc in absurd (subst (In y) (sym q) m)
@@ -133,7 +133,7 @@ in_all f y (x ∷ xs) ys e m =
       | inr n ↦ let r = in_all f y xs k.tail k.more n in (r.0, inr r.1, r.2)
     ]
 
--- a distinct row is one of the rows
+-- a row without repeats is one of the rows
 in_distinct : (row : Row) (rows : List Row) → In row (distinct_rows rows) → In row rows
 in_distinct row [] m = absurd m
 in_distinct row (r ∷ rows) (inl e) = inl e
@@ -144,13 +144,13 @@ in_if_distinct : (b : Bool) (row : Row) (rows : List Row) → In row (if_distinc
 in_if_distinct true row rows m = in_distinct row rows m
 in_if_distinct false row rows m = m
 
--- the kinds of output columns
+-- the kinds of output columns, found in two ways
 twice : (outs : List Output) → map (λ (c : Typed). c.kind) (map (λ (o : Output). o.typed) outs) ≡ map
     (λ (o : Output). o.typed.kind) outs
 twice [] = refl
 twice (o ∷ outs) = ap (λ l. o.typed.kind ∷ l) (twice outs)
 
--- a query whose items fit columns of these kinds has such rows
+-- if the items of a query fit columns of these kinds, its rows are of these kinds
 query_kinds : (defs : List TableDef) (t : SelectTree) (ks : List Kind)
     → cells_misfit ks (select defs t []).value.kinds ≡ false
     → (bag : Ref → List Row) → IsTypedBag defs bag
@@ -182,7 +182,7 @@ query_kinds defs t ks fit bag typed rows e row m =
     outs : List Output
     outs = (outputs scope t.items).value
 
--- INSERT from a query
+-- INSERT from a query is typed
 select_typed : (defs : List TableDef) (n : Name) (ns : List Name) (s : SelectTree)
     → (insert_select defs n ns s).faults ≡ [] → IsTypedBound defs (insert_select defs n ns s).value
 select_typed defs n ns s e =
@@ -198,7 +198,7 @@ select_typed defs n ns s e =
 
 -- ---- laws
 
--- the value of a bound expression is of its kind: the law that readers see
+-- the law: the value of a bound expression is of its kind
 pub values_typed : ValuesAreOfKind
 values_typed scope e group row each own v q = (expr_keeps scope e).of_kind group row (λ r m. fits r (each r m))
     (fits row own) v q
@@ -206,7 +206,7 @@ values_typed scope e group row each own v q = (expr_keeps scope e).of_kind group
     fits : (r : Row) → HasScopeKinds scope r → FitsScope scope r
     fits r h = record { each = h }
 
--- each statement without a fault
+-- the law: the binding of each statement without a fault is typed
 pub bound_typed : BoundAreTyped
 bound_typed defs (CreateTree n x es versioned) e =
     created_typed defs n (x ∷ es) versioned (no_left (create defs n (x ∷ es) versioned).faults [] e)

@@ -20,16 +20,16 @@ use Rattle.tql_spec.proofs.RunKeeps.{asked_stays, changed_entry, altered_keeps, 
 abbrev InCalendar : ℤ → Type 0
 InCalendar m = (first_moment ≤ℤ m) × (m ≤ℤ high)
 
--- the horizon of a state is one
+-- the horizon of a state is in the calendar
 record HasHorizon (s : State) : Type 0 where
   within : InCalendar s.horizon
 
--- a statement prunes to one alone
+-- a PRUNE has a moment of the calendar
 abbrev PrunesWithin : Bound → Type 0
 PrunesWithin (Prune m) = InCalendar m
 PrunesWithin _ = Unit {0}
 
--- what a literal reads as, or what stands for it
+-- the moment of a literal, or its placeholder, is in the calendar
 read_within : (o : Option ℤ) → ((m : ℤ) → o ≡ Some m → InCalendar m) → InCalendar (or_bad_moment o).value
 read_within None k = (omega (arith, ints), omega (arith, ints))
 read_within (Some m) k = k m refl
@@ -51,7 +51,7 @@ bound_within defs (ReadTree n s keys) = tt
 bound_within defs (CloseTree n) = tt
 bound_within defs (PruneTree m) = read_within (read_timestamp m) (λ n e. moment_read m n e)
 
--- each effect keeps it
+-- each effect preserves that the horizon is in the calendar
 committed_within : (s : State) (o : Option Entry) → HasHorizon s → HasHorizon (with_commit s o)
 committed_within s None h = h
 committed_within s (Some e) h = record { within = h.within }
@@ -75,7 +75,7 @@ effect_within s (Read n q) k h = asked_stays HasHorizon s q _ h
 effect_within s (CloseReader n) k h = record { within = h.within }
 effect_within s (Prune m) k h = record { within = k }
 
--- so does a run, from the first horizon on
+-- the law: in every state that a run reaches, the horizon is in the calendar
 pub reached_horizons : ReachedHorizons
 reached_horizons s r =
     (run_keeps HasHorizon

@@ -1,4 +1,4 @@
--- What a reader set aside is the history up to its pin, but for what a horizon has let go.
+-- The copies that a reader pinned are the history up to its pin, except for copies that a horizon removed.
 use Rattle.std.proofs.Common.{◌≡◌, refl, sym, ap, subst, ◌∙◌, ℕ, zero, suc, Bool, true, false, List, [], ◌∷◌, ◌++◌}
 use Rattle.std.proofs.Common.{take, inl, inr, arith}
 use Rattle.std.specs.Prelude.{◌||◌, not, ℤ, ◌≤ℤ◌, ◌<ℤ◌, int_le, int_lt, if◌then◌else◌, Option, Some, None, is_some}
@@ -25,12 +25,12 @@ use Rattle.tql_spec.proofs.InOrder.{no_fault, state, keeps_in_order, first_in_or
 use Rattle.tql_spec.proofs.Horizons.{not_before, LeavesSome, question_left, pruned_left}
 use Rattle.tql_spec.proofs.HorizonRuns.{whole}
 
--- a moment is later than the newest of some copies; where there is none each is
+-- a moment is later than the newest pinned copy; true if there is none
 abbrev Later : List Entry → ℤ → Type 0
 Later [] m = Unit {0}
 Later (p ∷ older) m = p.moment <ℤ m
 
--- the history is copies that are later than those set aside, and of these what the horizon has left
+-- the history is copies that are later than the pinned ones, followed by the pinned copies that the horizon left
 record IsHeld (h : ℤ) (history pinned : List Entry) : Type 0 where
   newer : List Entry
   left : ℕ
@@ -39,20 +39,20 @@ record IsHeld (h : ℤ) (history pinned : List Entry) : Type 0 where
   later : (e : Entry) → In e newer → Later pinned e.moment
   falls : Falling pinned
 
--- so it is with each reader
+-- this holds for each reader
 abbrev AllHeld : State → Type 0
 AllHeld s = (r : Reader) → In r s.readers → IsHeld s.horizon s.history r.pinned
 
 -- ---- commits
 
--- copies lie below the moment that they fall from
+-- copies are before an upper bound of their moments
 below_all : (until : ℤ) (es : List Entry) → FallingFrom until es → (e : Entry) → In e es → e.moment <ℤ until
 below_all until [] f e m = absurd m
 below_all until (x ∷ es) f e (inl q) =
     let a = f.0 in let b : e.moment ≡ x.moment = ap (λ (y : Entry). y.moment) q in omega (arith, ints)
 below_all until (x ∷ es) f e (inr m) = let a = f.0 in let b = below_all x.moment es f.1 e m in omega (arith, ints)
 
--- the newest copy set aside is in the history
+-- the newest pinned copy is in the history
 pin_there : (h : ℤ) (history : List Entry) (p : Entry) (older : List Entry) → IsHeld h history (p ∷ older)
     → In p history
 pin_there h history p older k =
@@ -63,13 +63,13 @@ pin_there h history p older k =
     first zero l = absurd l
     first (suc n) l = inl refl
 
--- a copy that is later than the history is later than what was set aside
+-- a moment later than the history is later than the pinned copies
 later_than : (h : ℤ) (history pinned : List Entry) (m : ℤ) → FallingFrom m history → IsHeld h history pinned
     → Later pinned m
 later_than h history [] m f k = tt
 later_than h history (p ∷ older) m f k = below_all m history f p (pin_there h history p older k)
 
--- one commit more
+-- one more commit preserves this
 held_more : (h : ℤ) (history pinned : List Entry) (e : Entry) → FallingFrom e.moment history → IsHeld h history pinned
     → IsHeld h (e ∷ history) pinned
 held_more h history pinned e f k = record {
@@ -86,7 +86,7 @@ held_more h history pinned e f k = record {
 
 -- ---- pruning
 
--- a horizon leaves the copies that are later than it
+-- pruning keeps the copies that are later than the horizon
 pruned_behind : (m : ℤ) (newer es : List Entry) → ((e : Entry) → In e newer → m <ℤ e.moment)
     → pruned m (newer ++ es) ≡ newer ++ pruned m es
 pruned_behind m [] es l = refl
@@ -97,7 +97,7 @@ pruned_behind m (x ∷ newer) es l =
     not_reached : m <ℤ x.moment → int_le x.moment m ≡ false
     not_reached k = elim (le_tells x.moment m) [ inl s ↦ absurd (let a = s.1 in omega (arith, ints)) | inr s ↦ s.0 ]
 
--- a horizon that passes no reader
+-- pruning by a horizon that does not pass the reader preserves this
 held_pruned : (h m : ℤ) (history pinned : List Entry) → h ≤ℤ m → passes m pinned ≡ false → IsHeld h history pinned
     → IsHeld m (pruned m history) pinned
 held_pruned h m history [] l e k = absurd (cc)
@@ -115,7 +115,7 @@ held_pruned h m history (p ∷ older) l e k =
       falls = k.falls;
     }
 
--- of readers none of which a horizon passes
+-- a horizon that passes no reader does not pass a given one
 none_passed : (m : ℤ) (rs : List Reader) → passes_some m rs ≡ false → (r : Reader) → In r rs → passes m r.pinned ≡ false
 none_passed m [] e r i = absurd i
 none_passed m (x ∷ rs) e r (inl q) =
@@ -132,7 +132,7 @@ none_passed m (x ∷ rs) e r (inr i) = none_passed m rs (second (passes m x.pinn
 
 -- ---- statements and runs
 
--- no reader is open
+-- if no reader is open, there is none
 no_reader : (rs : List Reader) → is_any_open rs ≡ false → (r : Reader) → In r rs → ⊥
 no_reader [] e r i = absurd i
 no_reader (x ∷ rs) e r i = absurd (cc)
@@ -202,7 +202,7 @@ effect_held base defs history next begun (OpenReader n) e l o k =
 effect_held base defs history next begun (CloseReader n) e l o k =
     λ r i. k r (in_kept (λ (x : Reader). not (same_text n x.name)) r base.readers i).0
 
--- in order, and each reader's copies are held
+-- the state is in order, and this holds for each reader
 record IsPinnedWell (s : State) : Type 0 where
   in_order : IsInOrder s
   held : AllHeld s
@@ -217,7 +217,7 @@ keeps_held s t k c = record {
 
 -- ---- the law
 
--- the copies up to the pin are what is left of those set aside
+-- the copies up to the pin are the pinned copies that are left
 up_to : (p : Entry) (newer es : List Entry) → ((e : Entry) → In e newer → p.moment <ℤ e.moment)
     → not_after p.moment (newer ++ p ∷ es) ≡ p ∷ es
 up_to p [] es l = ap (λ b. if b then p ∷ es else not_after p.moment es) (itself p.moment)

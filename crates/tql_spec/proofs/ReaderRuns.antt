@@ -1,4 +1,4 @@
--- What a reader set aside stays, so that its READs answer as at its opening.
+-- The copies that a reader pinned stay, so its READs answer as at its opening.
 use Rattle.std.proofs.Common.{◌≡◌, refl, sym, ap, subst, ◌∙◌, Bool, true, false, cond, List, [], ◌∷◌, ◌++◌, filter}
 use Rattle.std.proofs.Common.{inl, inr, arith, append_assoc}
 use Rattle.std.specs.Prelude.{◌||◌, not, nat_le, length, ℤ, ◌≤ℤ◌, int_lt, if◌then◌else◌, Option, Some, None, is_some}
@@ -37,12 +37,12 @@ use Rattle.tql_spec.proofs.Horizons.{not_before, asks_later}
 
 -- ---- readers by their names
 
--- where one is live, some reader is open
+-- if a name is live, some reader is open
 live_open : (n : Name) (rs : List Reader) → is_live n rs ≡ true → is_any_open rs ≡ true
 live_open n [] e = e
 live_open n (r ∷ rs) e = refl
 
--- one more reader behind those that have the name
+-- a live name stays live with one more reader at the end
 live_more : (n : Name) (x : Reader) (rs : List Reader) → is_live n rs ≡ true → is_live n (rs ++ x ∷ []) ≡ true
 live_more n x [] e = absurd (cc)
 live_more n x (r ∷ rs) e = either (same_text n r.name) (is_live n rs) (is_live n (rs ++ x ∷ [])) e (live_more n x rs)
@@ -62,7 +62,7 @@ pinned_more n x (r ∷ rs) e = either (same_text n r.name) e (pinned_more n x rs
     either true k f = refl
     either false k f = f k
 
--- the first reader of its name
+-- the name of a reader at the end is live
 live_first : (n : Name) (es : List Entry) (rs : List Reader)
     → is_live n (rs ++ record { name = n; pinned = es } ∷ []) ≡ true
 live_first n es [] = ap (λ b. b || false) (same_text-self n)
@@ -83,13 +83,13 @@ pinned_first n es (r ∷ rs) e = either (same_text n r.name) e (pinned_first n e
     either true k f = absurd (cc)
     either false k f = f k
 
--- readers of another name that go
+-- a reader with the name m does not have a different name n
 not_both : (m n : Name) (r : Reader) → (m ≡ n → ⊥) → same_text m r.name ≡ true → same_text n r.name ≡ false
 not_both m n r apart e =
     by_bool (same_text n r.name) (λ f. absurd (apart (same_text-is m r.name e ∙ sym (same_text-is n r.name f))))
     (λ f. f)
 
--- those that stay
+-- the readers that stay when those with the name m are removed
 abbrev others : Name → List Reader → List Reader
 others m rs = filter (λ (r : Reader). not (same_text m r.name)) rs
 
@@ -112,10 +112,10 @@ pinned_kept m n apart (r ∷ rs) = either (same_text m r.name) (not_both m n r a
     either true f k = k ∙ sym (ap (λ b. if b then r.pinned else pinned_of n rs) (f refl))
     either false f k = ap (λ es. if same_text n r.name then r.pinned else es) k
 
--- ---- what an open reader keeps
+-- ---- what an open reader preserves
 
--- of a reader that was opened in a state: it is live, has that history, its tables are the same, and the horizon has
--- not gone back
+-- for a reader opened in state s: it is live and pins the history of s, the tables are those of s, and the horizon has
+-- not moved back
 record IsPinned (s : State) (n : Name) (now : State) : Type 0 where
   definitions : now.definitions ≡ s.definitions
   live : is_live n now.readers ≡ true
@@ -123,7 +123,7 @@ record IsPinned (s : State) (n : Name) (now : State) : Type 0 where
   horizon : s.horizon ≤ℤ now.horizon
 
 module _ (s : State) (n : Name) where
-  -- a state with the same tables, horizon and readers
+  -- this holds for another state with the same tables, readers and horizon
   again : (x y : State) → y.definitions ≡ x.definitions → y.readers ≡ x.readers → y.horizon ≡ x.horizon → IsPinned s n x
       → IsPinned s n y
   again x y d r h p = record {
@@ -141,7 +141,7 @@ module _ (s : State) (n : Name) where
   by_working x None e p = again x (with_working x None e) refl refl refl p
   by_working x (Some w) e p = again x (with_working x (Some w) e) refl refl refl p
 
-  -- no table comes or goes
+  -- while it is open, CREATE and DROP TABLE are refused
   no_change : (x : State) → IsPinned s n x
       → fault_if (is_some x.transaction) NotInThisTransactionState ++ fault_if (is_any_open x.readers) ReadersAreOpen
       ≡ [] → ⊥
@@ -205,7 +205,7 @@ module _ (s : State) (n : Name) where
   closes defs (ReadTree m k keys) q = absurd (cc)
   closes defs (CloseTree m) q = ap (λ (k : Name). CloseTree k) (cc)
 
-  -- one piece
+  -- a piece that does not close the reader preserves this
   sense_pinned : (x : State) (sense : Sense)
       → (sense ≡ Says (CloseTree n) → (respond_to x sense).0 ≡ Refused OutOfMemory) → IsPinned s n x
       → IsPinned s n (respond_to x sense).1
@@ -216,7 +216,7 @@ module _ (s : State) (n : Name) where
       (λ e. let k = taken x t e in
       effect_pinned x (bind x.definitions t).value (not_closed e) k.free k.within p)
     where
-      -- a reader that is closed is not out of memory
+      -- CLOSE READER without a fault does not reply that memory ran out
       not_closed : first (statement_faults x t) ≡ None → (bind x.definitions t).value ≡ CloseReader n → ⊥
       not_closed e q =
           let r = effect x (bind x.definitions t).value in
@@ -239,7 +239,7 @@ module _ (s : State) (n : Name) where
           (λ q. sym (ap (λ (w : Reply × State). w.0) e) ∙ c.0 (subst (HasSense y) q means)) p)
       one (inr e) = subst (IsPinned s n) (sym e.1) p
 
-  -- the state that the opening leaves
+  -- the state after the opening has this property
   opening : (o : Option Refusal) (x : State) (r : Reply) → (o ≡ None → IsPinned s n x)
       → (unless_refused o s r x).0 ≡ Done OpenedReader None → IsPinned s n (unless_refused o s r x).1
   opening None x r k e = k refl
@@ -260,9 +260,9 @@ module _ (s : State) (n : Name) where
         horizon = omega (arith, ints);
       }) e
 
--- ---- what a READ replies
+-- ---- the reply to a READ
 
--- a reply, unless a fault is first
+-- the reply, or the refusal if there is a fault
 abbrev unless : Option Refusal → Reply → Reply
 unless None r = r
 unless (Some e) r = Refused e
@@ -271,7 +271,7 @@ unless_reply : (o : Option Refusal) (old new : State) (r : Reply) → (unless_re
 unless_reply None old new r = refl
 unless_reply (Some e) old new r = refl
 
--- the rows in order, or out of range
+-- the reply to a query: its rows in order, or out of range
 abbrev told : Query → Option (List Row) → Reply
 told q None = Refused ValueOutOfRange
 told q (Some rows) = Table q.headings (in_order q.ordering rows)
@@ -280,7 +280,7 @@ asked_reply : (s : State) (q : Query) (o : Option (List Row)) → (asked s q o).
 asked_reply s q None = refl
 asked_reply s q (Some rows) = refl
 
--- the reply to a query over some copies, with faults of its own
+-- the reply to a query over these copies, with these faults in front of its own
 abbrev replied : (Query → List Refusal) → List TableDef → List Entry → SelectTree → List OrderTree → Reply
 replied limits defs es q keys =
     let k : Checked Selected = select defs q keys in
@@ -309,13 +309,13 @@ query_reply s q keys =
     unless_reply o (stopped s) r.1 r.0
     ∙ ap (unless o) (asked_reply (stopped s) k (answer (bag_in s.definitions s.history) k))
 
--- a fault that is not the first changes nothing
+-- a fault that is not the first does not change the first
 unless_it : (xs : List Refusal) (e : Refusal) (b : Bool) (ys : List Refusal)
     → (first (xs ++ (fault_if b e ++ ys)) ≡ Some e → ⊥) → first (xs ++ (fault_if b e ++ ys)) ≡ first (xs ++ ys)
 unless_it xs e true ys h = elim (one_more xs e ys) [ inl q ↦ absurd (h q) | inr q ↦ q ]
 unless_it xs e false ys h = refl
 
--- faults of a reader and of its horizon that are not the first
+-- if the first fault of a READ is neither the reader's nor the horizon's, it is that of the query at the opening
 read_first : (bs : List Refusal) (reader after before : Bool) → (before ≡ true → after ≡ true)
     → (first ((fault_if reader ReaderNotUsable ++ fault_if after BeforeTheHorizon) ++ bs) ≡ Some BeforeTheHorizon → ⊥)
     → (first ((fault_if reader ReaderNotUsable ++ fault_if after BeforeTheHorizon) ++ bs) ≡ Some ReaderNotUsable → ⊥)
@@ -339,7 +339,7 @@ read_first bs reader after before k no_horizon no_reader = to_bs ∙ sym (from_b
     sooner_is true = refl
     sooner_is false = refl
 
-    -- were the horizon first in one, it were so in the other
+    -- if the fault of the horizon came first before `bs`, it would be the first fault of the READ
     too_early : after ≡ true → first (BeforeTheHorizon ∷ bs) ≡ Some BeforeTheHorizon
         → first ((fault_if reader ReaderNotUsable ++ fault_if after BeforeTheHorizon) ++ bs) ≡ Some BeforeTheHorizon
     too_early a q =
@@ -356,7 +356,7 @@ read_first bs reader after before k no_horizon no_reader = to_bs ∙ sym (from_b
 
 -- ---- laws
 
--- a READ in a state that keeps what its reader set aside
+-- a READ in a state with the property replies as the query at the opening
 reads_stable : (s now : State) (n : Name) → IsPinned s n now → (q : SelectTree) (keys : List OrderTree)
     → Counts (respond now (ReadTree n q keys)).0
     → (respond now (ReadTree n q keys)).0 ≡ (respond (stopped s) (QueryTree q keys)).0
@@ -392,7 +392,7 @@ readers_are_stable s now n o q keys c =
     let opening : State = (respond s (OpenTree n)).1 in
     reads_stable s now n (run_pinned s n opening now o.pieces o.replies (opened s n o.opened) o.run o.stays) q keys c
 
--- two answers that are the same leave the same state, where a token list spells one statement at most
+-- two answers with the same reply leave the same state, if a token list spells at most one statement
 one_after : SpellsOnce → (old new new' : State) (p : Piece) (r : Reply) → Answers old p r new → Answers old p r new'
     → new ≡ new'
 one_after once old new new' p r (inl (a, h, e)) (inl (b, k, f)) =
@@ -405,7 +405,7 @@ one_after once old new new' p r (inr h) (inl (b, k, f)) =
     ∙ respond_keeps old b OutOfMemory (sym (ap (λ (x : Reply × State). x.0) f) ∙ h.0))
 one_after once old new new' p r (inr h) (inr k) = h.1 ∙ sym k.1
 
--- so do two runs
+-- two runs with the same replies end in the same state
 one_end : SpellsOnce → (old new new' : State) (pieces : List Piece) (replies : List Reply) → Run old pieces replies new
     → Run old pieces replies new' → new ≡ new'
 one_end once old new new' [] [] r r' = r ∙ sym r'

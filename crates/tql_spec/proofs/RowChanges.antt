@@ -32,7 +32,7 @@ pub record Good (d : TableDef) (r : Stamped) : Type 0 where
   pub typed : IsTyped d r
   pub period : HasPeriod d (shown d r)
 
--- rows that are so
+-- each of the rows is good
 abbrev pub AllGood : TableDef → List Stamped → Type 0
 AllGood d rows = (r : Stamped) → In r rows → Good d r
 
@@ -42,25 +42,25 @@ AllOfKinds d rows = (row : Row) → In row rows → AreOfKinds (kinds_of d) row
 
 -- ---- new rows
 
--- a full row that is stamped
+-- a full row of the table's kinds is typed when stamped
 stamped_typed : (d : TableDef) (m : ℤ) (row : Row) → IsTypedDefinition d → AreOfKinds (kinds_of d) row
     → IsTyped d (stamped d m row)
 stamped_typed d m row t h =
     generated_kinds d t row h m high (sym (kinds_length (kinds_of d) row h ∙ length-map d.columns _))
 
--- such rows
+-- several full rows are typed when stamped
 all_stamped : (d : TableDef) (m : ℤ) (rows : List Row) → IsTypedDefinition d → AllOfKinds d rows
     → (r : Stamped) → In r (map (stamped d m) rows) → IsTyped d r
 all_stamped d m rows t h r n =
     let i = in_image (stamped d m) r rows n in subst (IsTyped d) (sym i.2) (stamped_typed d m i.0 t (h i.0 i.1))
 
--- a part of no faults has none
+-- if the joined faults are empty, so are the faults of each element
 pub part_free : {X : Type 0} (f : X → List Refusal) (x : X) (xs : List X) → In x xs → flat_map f xs ≡ [] → f x ≡ []
 part_free f x [] m e = absurd m
 part_free f x (y ∷ xs) (inl q) e = ap f q ∙ no_left (f y) (flat_map f xs) e
 part_free f x (y ∷ xs) (inr m) e = part_free f x xs m (no_right (f y) (flat_map f xs) e)
 
--- a new row without a fault
+-- typed new rows without faults are good
 good_new : (d : TableDef) → IsTypedDefinition d → (new : List Stamped) → ((r : Stamped) → In r new → IsTyped d r)
     → flat_map (λ r. row_faults d (shown d r)) new ≡ [] → AllGood d new
 good_new d t new h e r m =
@@ -71,7 +71,7 @@ good_new d t new h e r m =
     (flat_map (λ c. check_fault (judge [] row c)) d.checks) free) in
     record { typed = h r m; period = period_there d t row (h r m) cells }
 
--- an INSERT
+-- an INSERT without a fault leaves good rows
 pub insert_good : (d : TableDef) (m : ℤ) (rows : List Stamped) (columns : List ℕ) (o : Option (List (List Datum)))
     → IsTypedDefinition d
     → AllGood d rows
@@ -95,11 +95,11 @@ insert_good d m rows columns (Some tuples) t g h e r n = elim
 
 -- ---- rows replaced
 
--- a number stands first in a list
+-- a number is found at the front of a list
 number_first : (i : ℕ) (is : List ℕ) → has_number i (i ∷ is) ≡ true
 number_first i is = let e : (i == i) ≡ true = grind (arith, nat_tests) in rw e refl
 
--- and second
+-- a number is found at the second position of a list
 number_second : (i j : ℕ) (is : List ℕ) → has_number i (j ∷ i ∷ is) ≡ true
 number_second i j is = either (i == j)
   where
@@ -107,7 +107,7 @@ number_second i j is = either (i == j)
     either true = refl
     either false = number_first i is
 
--- what a work makes of a row of the table's kinds
+-- the rows that a row of the table's kinds becomes are of these kinds
 pub made_kinds : (d : TableDef) (portion : Option Period) (work : Work) → IsTypedWork d portion work → (row : Row)
     → AreOfKinds (kinds_of d) row
     → (made : List Row) → made_of work row ≡ Some made → AllOfKinds d made
@@ -126,7 +126,7 @@ made_kinds d portion (Work.Set sets) w row h made e x m = at_row (assigned row r
           | inr z ↦ absurd z
         ]
 
--- in a change of a portion it keeps the columns of the period
+-- in a change of a portion, the rows that a row becomes have no null in the columns of the period
 pub made_periods : (d : TableDef) (p : Period) (work : Work) → IsTypedWork d (Some p) work → (row : Row)
     → HasPeriod d row
     → (made : List Row) → made_of work row ≡ Some made → (x : Row) → In x made → HasPeriod d x
@@ -160,7 +160,7 @@ made_periods d p (Work.Set sets) w row h made e x m a q = at_row (assigned row r
           | inr z ↦ absurd z
         ]
 
--- the parts that a change leaves
+-- the pieces of a changed row are of the table's kinds
 pieces_kinds : (d : TableDef) → IsTypedDefinition d → (portion : Option Period) (work : Work)
     → IsTypedWork d portion work
     → (row : Row) → AreOfKinds (kinds_of d) row → HasPeriod d row → (made : List Row) → made_of work row ≡ Some made
@@ -190,7 +190,7 @@ pieces_kinds d t (Some portion) work w row h k made e x m = elim
     own ps n = let i = in_image (λ p. with_period d p row) x ps n in
         subst (AreOfKinds (kinds_of d)) (sym i.2) (period_kinds d t i.0 row h k)
 
--- what replaces a good row is of the table's kinds
+-- the rows that replace a good row are typed
 fate_typed : (d : TableDef) → IsTypedDefinition d → (m : ℤ) (portion : Option Period) (work : Work) (conds : List Cond)
     → IsTypedWork d portion work → (r : Stamped) → Good d r → (new : List Stamped)
     → fate d m portion work conds (shown d r) ≡ Some (Replaced new) → (x : Stamped) → In x new → IsTyped d x
@@ -211,7 +211,7 @@ fate_typed d t m portion work conds w r g new q = touched (is_touched d portion 
         subst (λ (xs : List Stamped). (x : Stamped) → In x xs → IsTyped d x) same
         (all_stamped d m (pieces d portion (shown d r) rows) t (h rows refl))
 
--- rows after the change are old, or new
+-- a row after the change is an old row or a new one
 old_or_new : (rows : List Stamped) (fates : List Fate) (r : Stamped) → In r (after_fates rows fates)
     → In r rows ⊎ In r (new_rows fates)
 old_or_new [] [] r m = absurd m
@@ -231,7 +231,7 @@ old_or_new (x ∷ rows) (Replaced new ∷ fates) r m = elim (in_either r new (af
     in_second : In r (new_rows fates) → In r (new ++ new_rows fates)
     in_second i = in_right r new (new_rows fates) i
 
--- new rows are of the table's kinds
+-- the new rows are typed
 all_new : (d : TableDef) (f : Stamped → Option Fate) (rows : List Stamped)
     → ((r : Stamped) → In r rows → (new : List Stamped) → f r ≡ Some (Replaced new) → (x : Stamped) → In x new
     → IsTyped d x)
@@ -248,7 +248,7 @@ all_new d f (r ∷ rows) h fates e x m =
     by_fate (Replaced new) ys q ih i = elim
         (in_either x new (new_rows ys) i) [ inl j ↦ h r (inl refl) new q x j | inr j ↦ ih j ]
 
--- an UPDATE or a DELETE
+-- an UPDATE or a DELETE without a fault leaves good rows
 pub modify_good : (d : TableDef) → IsTypedDefinition d
     → (m : ℤ) (rows : List Stamped) (portion : Option Period) (work : Work) (conds : List Cond)
     → IsTypedWork d portion work → AllGood d rows → (modify d m rows portion work conds).faults ≡ []

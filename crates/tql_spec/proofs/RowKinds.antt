@@ -1,4 +1,4 @@
--- Rows of a table's kinds stay so where cells are set, generated cells are put in, and periods are changed.
+-- Rows stay of a table's kinds if cells are set, generated cells are inserted, or periods are changed.
 use Rattle.std.proofs.Common.{◌≡◌, ◌<◌, refl, sym, ap, subst, ◌∙◌, ℕ, zero, suc, Bool, true, false, List, [], ◌∷◌, ◌++◌}
 use Rattle.std.proofs.Common.{map, get_or, length, inl, inr, arith}
 use Rattle.std.specs.Prelude.{◌&&◌, insert, remove, replicate, slice_set, nat_lt, ℤ, Option, Some, None}
@@ -31,7 +31,7 @@ cell_kind (k ∷ ks) [] h i = absurd h
 cell_kind (k ∷ ks) (v ∷ row) h zero = h.0
 cell_kind (k ∷ ks) (v ∷ row) h (suc i) = cell_kind ks row h.1 i
 
--- a cell set to a value of its column's kind
+-- a row stays of the kinds if a cell is set to a value of its column's kind
 pub set_kinds : (ks : List Kind) (row : Row) → AreOfKinds ks row → (i : ℕ) (v : Datum)
     → IsOfKind (Some (get_or ks i Ints)) v
     → AreOfKinds ks (slice_set row i v)
@@ -46,21 +46,21 @@ pub null_kinds : (ks : List Kind) → AreOfKinds ks (replicate (length ks) Null)
 null_kinds [] = tt
 null_kinds (k ∷ ks) = (tt, null_kinds ks)
 
--- as many cells as kinds
+-- a row of these kinds has as many cells as there are kinds
 pub kinds_length : (ks : List Kind) (row : Row) → AreOfKinds ks row → length row ≡ length ks
 kinds_length [] [] h = refl
 kinds_length [] (v ∷ row) h = absurd h
 kinds_length (k ∷ ks) [] h = absurd h
 kinds_length (k ∷ ks) (v ∷ row) h = ap suc (kinds_length ks row h.1)
 
--- cells filled in
+-- a row stays of the kinds if cells are filled with values of their kinds
 pub filled_kinds : (ks : List Kind) (row : Row) → AreOfKinds ks row → (columns : List ℕ) (values : List Datum)
     → AreOfKinds (map (λ i. get_or ks i Ints) columns) values → AreOfKinds ks (filled row columns values)
 filled_kinds ks row h [] values k = h
 filled_kinds ks row h (c ∷ cs) [] k = absurd k
 filled_kinds ks row h (c ∷ cs) (v ∷ vs) k = filled_kinds ks (slice_set row c v) (set_kinds ks row h c v k.0) cs vs k.1
 
--- cells assigned
+-- a row stays of the kinds if assigned values are of their columns' kinds
 pub assigned_kinds : (ks : List Kind) (old row : Row) (sets : List Assignment) → AreOfKinds ks row
     → ((a : Assignment) → In a sets → (v : Datum) → eval [] old a.value ≡ Some v
     → IsOfKind (Some (get_or ks a.column Ints)) v)
@@ -77,7 +77,7 @@ assigned_kinds ks old row (a ∷ more) h k new e = at_value (eval [] old a.value
     at_value None q ih p = absurd (cc)
     at_value (Some v) q ih p = ih v q p
 
--- another cell stays
+-- setting a cell does not change another cell
 pub set_other : (row : Row) (c i : ℕ) (v : Datum) → (c ≡ i → ⊥) → cell (slice_set row c v) i ≡ cell row i
 set_other [] c i v h = refl
 set_other (x ∷ row) zero zero v h = absurd (h refl)
@@ -85,7 +85,7 @@ set_other (x ∷ row) zero (suc i) v h = refl
 set_other (x ∷ row) (suc c) zero v h = refl
 set_other (x ∷ row) (suc c) (suc i) v h = set_other row c i v (λ e. h (ap suc e))
 
--- a cell that none of the assignments names stays
+-- assignments do not change a cell that none of them names
 pub assigned_other : (old row : Row) (sets : List Assignment) (i : ℕ)
     → ((a : Assignment) → In a sets → a.column ≡ i → ⊥)
     → (new : Row) → assigned old row sets ≡ Some new → cell new i ≡ cell row i
@@ -102,14 +102,14 @@ assigned_other old row (a ∷ more) i h new e = at_value (eval [] old a.value)
 
 -- ---- generated cells
 
--- an element put back where one was taken out
+-- inserting an element where one was removed replaces it
 pub put_back : {X : Type 0} (xs : List X) (i : ℕ) (x : X) → i < length xs → insert (remove xs i) i x ≡ slice_set xs i x
 put_back [] i x h = absurd (omega arith)
 put_back (y ∷ []) zero x h = refl
 put_back (y ∷ z ∷ xs) zero x h = refl
 put_back (y ∷ xs) (suc i) x h = ap (λ l. y ∷ l) (put_back xs i x (omega arith))
 
--- two of them
+-- the same for two elements
 pub put_both : {X : Type 0} (xs : List X) (i j : ℕ) (x y : X) → i < j → j < length xs
     → insert (insert (remove (remove xs j) i) i x) j y ≡ slice_set (slice_set xs i x) j y
 put_both [] i j x y h k = absurd (omega arith)
@@ -118,7 +118,7 @@ put_both (z ∷ xs) zero (suc j) x y h k = ap (λ l. x ∷ l) (put_back xs j y (
 put_both (z ∷ xs) (suc i) zero x y h k = absurd (omega arith)
 put_both (z ∷ xs) (suc i) (suc j) x y h k = ap (λ l. z ∷ l) (put_both xs i j x y (omega arith) (omega arith))
 
--- the row with moments in its generated columns
+-- a row with moments in its generated columns is of the table's kinds
 pub generated_kinds : (d : TableDef) → IsTypedDefinition d → (row : Row) → AreOfKinds (kinds_of d) row → (a b : ℤ)
     → length d.columns ≡ length row
     → AreOfKinds (kinds_of d) (with_generated d.system (without_generated d.system row) a b)
@@ -145,9 +145,9 @@ generated_kinds d t row h a b n = by_system d.system t.system
         (set_kinds (kinds_of d) row h s.end (Moment b) (ap Some (sym p.end_kind))) s.start (Moment a)
         (ap Some (sym p.start_kind)))))
 
--- ---- rows of one kind
+-- ---- rows of the same kinds
 
--- what two rows of the same kinds of values have in common
+-- if the cells of two rows have the same kinds and one row is of the kinds ks, so is the other
 pub same_kinds : (ks : List Kind) (xs ys : Row) → map kind_of xs ≡ map kind_of ys → AreOfKinds ks xs → AreOfKinds ks ys
 same_kinds [] [] [] e h = tt
 same_kinds [] [] (y ∷ ys) e h = absurd (cc)
@@ -159,14 +159,14 @@ same_kinds (k ∷ ks) (x ∷ xs) (y ∷ ys) e h =
     let more : map kind_of xs ≡ map kind_of ys = cc in
     (subst (Takes (Some k)) one h.0, same_kinds ks xs ys more h.1)
 
--- the kinds of a row with a cell more
+-- the kinds of a row with one more cell
 kinds_inserted : (xs : Row) (i : ℕ) (v : Datum) → map kind_of (insert xs i v) ≡ insert (map kind_of xs) i (kind_of v)
 kinds_inserted [] zero v = refl
 kinds_inserted [] (suc i) v = refl
 kinds_inserted (x ∷ xs) zero v = refl
 kinds_inserted (x ∷ xs) (suc i) v = ap (λ l. kind_of x ∷ l) (kinds_inserted xs i v)
 
--- moments in the generated columns are of one kind
+-- rows with different moments in the generated columns have the same kinds
 pub generated_same : (o : Option System) (cells : Row) (a b c d : ℤ)
     → map kind_of (with_generated o cells a b) ≡ map kind_of (with_generated o cells c d)
 generated_same None cells a b c d = refl
@@ -185,7 +185,7 @@ generated_same (Some s) cells a b c d = by_bool (nat_lt s.start s.end)
 
 -- ---- periods
 
--- the two ends are of one kind
+-- the two ends of a period are of the same kind
 pub ends_agree : (k l : Kind) → are_ends k l ≡ true → k ≡ l
 ends_agree Days Days e = refl
 ends_agree Moments Moments e = refl
@@ -198,7 +198,7 @@ ends_agree Moments Days e = absurd (cc)
 ends_agree Ints l e = absurd (cc)
 ends_agree Texts l e = absurd (cc)
 
--- a value of a kind of points, not null, gives points of that kind
+-- a point as a value like one of a kind of points is of that kind
 pub point_kept : (k l : Kind) → are_ends k l ≡ true → (v : Datum) → IsOfKind (Some k) v → is_null v ≡ false → (p : ℤ)
     → IsOfKind (Some k) (point_like v p)
 point_kept Ints l e v h n p = absurd (cc)
@@ -214,7 +214,7 @@ point_kept Moments l e (Text x) h n p = absurd (cc)
 point_kept Moments l e (Day x) h n p = absurd (cc)
 point_kept Moments l e (Moment x) h n p = refl
 
--- a row with another period
+-- a row with another period stays of the table's kinds
 pub period_kinds : (d : TableDef) → IsTypedDefinition d → (p : Period) (row : Row) → AreOfKinds (kinds_of d) row
     → HasPeriod d row
     → AreOfKinds (kinds_of d) (with_period d p row)
@@ -240,7 +240,7 @@ period_kinds d t p row h k = by_application d.application t.application k
 
 -- ---- null
 
--- a row without faults has no null in columns that take none
+-- a row without faults has no null in required columns
 there_required : (cs : List Column) (row : Row) → AreOfKinds (map (λ (c : Column). c.kind) cs) row
     → cell_faults cs row ≡ []
     → (i : ℕ) → is_required cs i ≡ true → is_null (cell row i) ≡ false
@@ -259,7 +259,7 @@ there_required (c ∷ cs) (v ∷ row) h e (suc i) r = there_required cs row h.1 
     (fault_if (is_too_long c.limit v) ValueOutOfRange ++ fault_if (c.required && is_null v) NullNotAllowed)
     (cell_faults cs row) e) i r
 
--- so the columns of its application period have values
+-- a row without faults has no null in the columns of its application period
 pub period_there : (d : TableDef) → IsTypedDefinition d → (row : Row) → AreOfKinds (kinds_of d) row
     → cell_faults d.columns row ≡ []
     → HasPeriod d row

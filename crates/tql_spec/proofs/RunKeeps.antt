@@ -1,4 +1,4 @@
--- What each statement keeps, a run keeps.
+-- A property that each statement preserves is preserved by a run.
 use Rattle.std.proofs.Common.{◌≡◌, refl, sym, ap, subst, List, [], ◌∷◌, ◌++◌, inl, inr}
 use Rattle.std.specs.Prelude.{Option, Some, None, slice_set}
 use Rattle.tql_spec.specs.Refusal.{Refusal, first}
@@ -16,23 +16,23 @@ use Rattle.tql_spec.specs.Binding.{bind, statement_class}
 use Rattle.tql_spec.specs.Run.{Sense, Says, Faulty, Answers, Run, respond_to, statement_faults}
 use Rattle.tql_spec.proofs.FirstFaults.{none_first, manner_kept}
 
--- no list is empty whose first part is not
+-- if a joined list is empty, its first part is empty
 pub no_left : {X : Type 0} (xs ys : List X) → xs ++ ys ≡ [] → xs ≡ []
 no_left [] ys e = refl
 no_left (x ∷ xs) ys e = absurd (cc)
 
--- nor one whose second part is not
+-- if a joined list is empty, its second part is empty
 pub no_right : {X : Type 0} (xs ys : List X) → xs ++ ys ≡ [] → ys ≡ []
 no_right [] ys e = e
 no_right (x ∷ xs) ys e = absurd (cc)
 
--- a property of states that a statement can keep
+-- a property of the old state is preserved if it holds for the new state when there is no refusal
 pub unless_either : (P : State → Type 0) (o : Option Refusal) (old : State) (reply : Reply) (new : State) → P old
     → (o ≡ None → P new) → P (unless_refused o old reply new).1
 unless_either P None old reply new p q = q refl
 unless_either P (Some e) old reply new p q = p
 
--- a query leaves the state as it was
+-- a query does not change the state
 pub asked_stays : (P : State → Type 0) (s : State) (q : Query) (o : Option (List Row)) → P s → P (asked s q o).1
 asked_stays P s q None p = p
 asked_stays P s q (Some rows) p = p
@@ -44,7 +44,7 @@ changed_copy s c =
     let o = outcome s e.moment e.copy c in
     slice_set e.copy (changed_table c) o.rows
 
--- a change without a fault, on whose result keys and references hold
+-- a change without a fault, after which keys and references hold
 pub record IsChange (s : State) (c : Change) : Type 0 where
   pub sound : (outcome s (working s s.transaction).moment (working s s.transaction).copy c).faults ≡ []
   pub holds : constraint_faults s.definitions (changed_copy s c) ≡ []
@@ -53,7 +53,7 @@ pub record IsChange (s : State) (c : Change) : Type 0 where
 abbrev pub changed_entry : State → Change → Entry
 changed_entry s c = record { moment = (working s s.transaction).moment; copy = changed_copy s c }
 
--- a change is refused and leaves the state, or has no fault and keeps what its result keeps
+-- a change preserves a property if the change without a fault does
 pub altered_keeps : (P : State → Type 0) (s : State) (c : Change) → P s
     → (IsChange s c → P (with_working s s.transaction (changed_entry s c))) → P (changed s c).1
 altered_keeps P s c p k =
@@ -69,13 +69,13 @@ altered_keeps P s c p k =
           (constraint_faults s.definitions copy) none;
     }))
 
--- what a statement is bound to, without a fault of names, and none by the state or its limits
+-- a statement is accepted: no fault by names, by the state or by its limits
 pub record IsTaken (s : State) (t : Statement) : Type 0 where
   pub sound : (bind s.definitions t).faults ≡ []
   pub free : state_faults s (class_of (bind s.definitions t).value) ≡ []
   pub within : limit_faults s (bind s.definitions t).value ≡ []
 
--- a statement without any fault is taken, for answer_keeps
+-- a statement without any fault is accepted
 pub taken : (s : State) (t : Statement) → first (statement_faults s t) ≡ None → IsTaken s t
 taken s t e =
     let b : Checked Bound = bind s.definitions t in
@@ -90,18 +90,18 @@ taken s t e =
       within = no_left limits (state_faults s (statement_class t) ++ b.faults) none;
     }
 
--- the effect keeps the property, of each statement that is taken
+-- the effect of each accepted statement preserves the property
 abbrev pub EffectKeeps : (State → Type 0) → Type 0
 EffectKeeps P = (s : State) (t : Statement) → IsTaken s t → P s → P (effect s (bind s.definitions t).value).1
 
--- an answer keeps what each effect keeps
+-- a reply preserves a property that each effect preserves
 pub answer_keeps : (P : State → Type 0) → EffectKeeps P → (s : State) (sense : Sense) → P s → P (respond_to s sense).1
 answer_keeps P k s (Faulty e) p = p
 answer_keeps P k s (Says t) p =
     let r = effect s (bind s.definitions t).value in
     unless_either P (first (statement_faults s t)) s r.0 r.1 p (λ e. k s t (taken s t e) p)
 
--- so does a run: the laws of states that a run reaches stand on this
+-- a run preserves a property that each effect preserves; used by the laws of reached states
 pub run_keeps : (P : State → Type 0) → EffectKeeps P
     → (old : State) (pieces : List Piece) (replies : List Reply) (new : State) → Run old pieces replies new → P old
     → P new

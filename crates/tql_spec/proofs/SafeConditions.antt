@@ -1,4 +1,4 @@
--- Where nothing is calculated, no evaluation leaves 64 bits.
+-- The evaluation of conditions that calculate nothing is never out of range.
 use Rattle.std.proofs.Common.{◌≡◌, List, refl, ◌&&◌, IsTrue, Some}
 use Rattle.std.proofs.lemmas.Bool.{and_parts}
 use Rattle.tql_spec.specs.Datum.{Datum, Row, compare, is_null}
@@ -7,7 +7,7 @@ use Rattle.tql_spec.specs.Period.{predicate, contains_point}
 use Rattle.tql_spec.specs.Expression.{Expr, Literal, Column, Negate, Binary, CountRows, Aggregate, Cond, Compare}
 use Rattle.tql_spec.specs.Expression.{IsNull, Related, ContainsPoint, Not, And, Or, eval, judge, is_plain, is_safe}
 
--- an expression in which nothing is calculated has a value
+-- an expression that calculates nothing has a value
 plain_value : (group : List Row) (row : Row) (e : Expr) → IsTrue (is_plain e)
     → (v : Datum) × (eval group row e ≡ Some v)
 plain_value group row (Literal v) h = (v, refl)
@@ -17,7 +17,7 @@ plain_value group row (Binary op a b) h = absurd (cc)
 plain_value group row CountRows h = absurd (cc)
 plain_value group row (Aggregate f e) h = absurd (cc)
 
--- and such a condition a truth
+-- a condition that calculates nothing has a truth
 pub safe_truth : (group : List Row) (row : Row) (c : Cond) → IsTrue (is_safe c)
     → (t : Truth) × (judge group row c ≡ Some t)
 safe_truth group row (Compare sign a b) h =

@@ -1,4 +1,4 @@
--- What History's walks find, by spans and membership.
+-- The results of the walks of History, stated by spans and membership.
 use Rattle.std.proofs.Common.{◌≡◌, ℕ, ◌+◌, Bool, true, false, cond, List, [], ◌∷◌, ◌++◌, filter, refl, sym, ap, ◌∙◌}
 use Rattle.std.proofs.Common.{arith, inl, inr, subst, append_assoc, append-nil}
 use Rattle.std.specs.Prelude.{◌⊎◌, ◌&&◌, ◌||◌, not, ℤ, pos, ◌+ℤ◌, ◌≤ℤ◌, ◌<ℤ◌, int_le, int_lt, if◌then◌else◌}
@@ -18,19 +18,19 @@ use Rattle.tql_spec.proofs.Members.{by_bool, lt_tells, le_tells}
 use Rattle.tql_spec.proofs.MemberLists.{in_left, in_right, in_either, in_image, in_kept, has_tells, times_none}
 use Rattle.tql_spec.proofs.MemberLists.{times_some, there_if, times_append, times_kept}
 
--- ---- what a walk knows of the copies that it has passed
+-- ---- the state of a walk after some copies
 
--- a moment lies before the next copy and the highest moment, as `until` says
+-- a moment is before `until` exactly if it is before each newer copy and before the highest moment
 record IsUntil (newer : List Entry) (until : ℤ) : Type 0 where
   gives : (p : ℤ) → p <ℤ until → (c : Entry) → In c newer → p <ℤ c.moment
   below : (p : ℤ) → p <ℤ until → p <ℤ high
   from : (p : ℤ) → ((c : Entry) → In c newer → p <ℤ c.moment) → p <ℤ high → p <ℤ until
 
--- before any copy
+-- the bound before any copy
 until_high : IsUntil [] high
 until_high = record { gives = λ p h c m. absurd m; below = λ p h. h; from = λ p f h. h }
 
--- past one more copy
+-- the bound after one more copy
 until_next : (newer : List Entry) (until : ℤ) (e : Entry) → IsUntil newer until → e.moment <ℤ until
     → IsUntil (newer ++ e ∷ []) e.moment
 until_next newer until e u h = record {
@@ -42,7 +42,7 @@ until_next newer until e u h = record {
   from = λ p f l. f e (in_right e newer (e ∷ []) (inl refl));
 }
 
--- rows end as `ends` says
+-- `ends` gives the ends of all rows, given the newer copies
 abbrev AreEnds : ℕ → List Entry → (Stamped → ℤ) → Type 0
 AreEnds t newer ends = (r : Stamped) → EndsAt t newer r (ends r)
 
@@ -50,7 +50,7 @@ AreEnds t newer ends = (r : Stamped) → EndsAt t newer r (ends r)
 ends_still : (t : ℕ) → AreEnds t [] still
 ends_still t r = inl ((λ c m. absurd m), refl)
 
--- one more copy that has the row
+-- a row is in each of these copies with one more copy that has it
 one_more : (t : ℕ) (copies : List Entry) (e : Entry) (r : Stamped) → InEach t copies r → In r (rows_in e.copy t)
     → InEach t (copies ++ e ∷ []) r
 one_more t copies e r k h c m = elim (in_either c copies (e ∷ []) m) [
@@ -58,7 +58,7 @@ one_more t copies e r k h c m = elim (in_either c copies (e ∷ []) m) [
   | inr n ↦ elim n [ inl q ↦ subst (λ (x : Entry). In r (rows_in x.copy t)) (sym q) h | inr z ↦ absurd z ]
 ]
 
--- a row that one more copy has ends as it did
+-- the end of a row does not change with one more copy that has it
 pub ends_later : (t : ℕ) (newer : List Entry) (e : Entry) (r : Stamped) (end : ℤ) → EndsAt t newer r end
     → In r (rows_in e.copy t) → EndsAt t (newer ++ e ∷ []) r end
 ends_later t newer e r end (inl (k, q)) h = inl (one_more t newer e r k h, q)
@@ -72,7 +72,7 @@ ends_later t newer e r end (inr i) h = inr (record {
   ends = i.ends;
 })
 
--- a row that one more copy lacks ends at its moment
+-- a row that one more copy lacks ends at the moment of that copy
 ends_here : (t : ℕ) (newer : List Entry) (e : Entry) (r : Stamped) → (In r (rows_in e.copy t) → ⊥)
     → EndsAt t (newer ++ e ∷ []) r e.moment
 ends_here t newer e r n =
@@ -86,11 +86,11 @@ ends_here t newer e r n =
       ends = refl;
     })
 
--- the table in one copy
+-- one table in one copy
 abbrev at : ℕ → Entry → TableEntry
 at t e = record { moment = e.moment; rows = rows_in e.copy t }
 
--- past one more copy, the ends of all rows
+-- the ends of all rows after one more copy
 ends_next : (t : ℕ) (newer : List Entry) (ends : Stamped → ℤ) (e : Entry) → AreEnds t newer ends
     → AreEnds t (newer ++ e ∷ []) (ends_before (at t e) ends)
 ends_next t newer ends e k r = elim (has_tells (rows_in e.copy t) r) [
@@ -102,25 +102,25 @@ ends_next t newer ends e k r = elim (has_tells (rows_in e.copy t) r) [
 
 -- ---- rows with their ends
 
--- rows with their ends are the rows
+-- the rows of versions made from rows are these rows
 rows_completed : (ends : Stamped → ℤ) (rows : List Stamped) → found_rows (completed ends rows) ≡ rows
 rows_completed ends [] = refl
 rows_completed ends (r ∷ rows) = ap {B = List Stamped} (λ xs. r ∷ xs) (rows_completed ends rows)
 
--- and their ends are those that are known
+-- the ends of these versions are right
 completed_ends : (t : ℕ) (newer : List Entry) (ends : Stamped → ℤ) (rows : List Stamped) → AreEnds t newer ends
     → (v : Version) → In v (completed ends rows) → EndsAt t newer v.row v.end
 completed_ends t newer ends rows k v m =
     let i = in_image (with_end ends) v rows m in subst (λ (x : Version). EndsAt t newer x.row x.end) (sym i.2) (k i.0)
 
--- and each is of a row
+-- each of these versions is a version of one of the rows
 completed_in : (ends : Stamped → ℤ) (rows : List Stamped) (v : Version) → In v (completed ends rows) → In v.row rows
 completed_in ends rows v m =
     let i = in_image (with_end ends) v rows m in subst (λ (x : Version). In x.row rows) (sym i.2) i.1
 
 -- ---- the newest copy, and the copy at a moment
 
--- no clause finds the newest copy
+-- a query without a clause finds the newest copy
 pub now_is_the_newest : (t : ℕ) (entries : List Entry) → NowIsTheNewest t entries
 now_is_the_newest t entries = record {
   there = λ e older q. subst (λ es. AreRowsOf t [] e (current (table_history t es))) (sym q) (record {
@@ -130,23 +130,23 @@ now_is_the_newest t entries = record {
   none = λ q. subst (λ es. current (table_history t es) ≡ []) (sym q) refl;
 }
 
--- a test that holds
+-- the value of a conditional whose test is true
 yes : (b : Bool) → b ≡ true → {X : Type 0} → (x y : X) → (if b then x else y) ≡ x
 yes b e x y = ap (λ c. if c then x else y) e
 
--- a test that fails
+-- the value of a conditional whose test is false
 no : (b : Bool) → b ≡ false → {X : Type 0} → (x y : X) → (if b then x else y) ≡ y
 no b e x y = ap (λ c. if c then x else y) e
 
--- whether a copy that stands until a moment stands at m
+-- a moment in the span of a copy passes the test
 stands : (s until m : ℤ) → s ≤ℤ m → m <ℤ until → int_le s m && int_lt m until ≡ true
 stands s until m h k = grind (arith, ints)
 
--- a moment before the copy
+-- a moment before the copy fails the test
 too_early : (s until m : ℤ) → m <ℤ s → int_le s m && int_lt m until ≡ false
 too_early s until m h = grind (arith, ints)
 
--- a moment behind its span
+-- a moment after the span of the copy fails the test
 too_late : (s until m : ℤ) → until ≤ℤ m → int_le s m && int_lt m until ≡ false
 too_late s until m h = grind (arith, ints)
 
@@ -172,7 +172,7 @@ as_of_there t m newer (g ∷ rest) e older until ends u k f h =
     (as_of_there t m (newer ++ g ∷ []) rest e older g.moment (ends_before (at t g) ends)
     (until_next newer until g u f.0) (ends_next t newer ends g k) f.1 (subst (λ ls. SpanHolds ls e m) (sym moved) h)))
 
--- before all copies the walk finds nothing
+-- the walk finds nothing at a moment before all copies
 none_before : (t : ℕ) (m : ℤ) (es : List Entry) (until : ℤ) (ends : Stamped → ℤ)
     → ((e : Entry) → In e es → m <ℤ e.moment) → as_of_from until ends m (table_history t es) ≡ []
 none_before t m [] until ends h = refl
@@ -180,7 +180,7 @@ none_before t m (e ∷ es) until ends h =
     no _ (too_early e.moment until m (h e (inl refl))) _ _
     ∙ none_before t m es e.moment (ends_before (at t e) ends) (λ c n. h c (inr n))
 
--- nor at the highest moment
+-- the walk finds nothing at or after `until`
 pub none_after : (t : ℕ) (m : ℤ) (es : List Entry) (until : ℤ) (ends : Stamped → ℤ) → FallingFrom until es → until ≤ℤ m
     → as_of_from until ends m (table_history t es) ≡ []
 none_after t m [] until ends f h = refl
@@ -188,7 +188,7 @@ none_after t m (e ∷ es) until ends f h =
     no _ (too_late e.moment until m h) _ _
     ∙ none_after t m es e.moment (ends_before (at t e) ends) f.1 (omega (arith, ints, f.0, h))
 
--- of a moment that lies before the copies passed: some copy's span holds it, or it lies before every copy
+-- a moment before the bound is in the span of some copy, or before every copy
 stands_or_before : (m : ℤ) (newer : List Entry) (until : ℤ) (es : List Entry) → IsUntil newer until
     → FallingFrom until es → m <ℤ until
     → ((passed : List Entry) × (e : Entry) × (older : List Entry) × (es ≡ passed ++ e ∷ older) × SpanHolds
@@ -215,7 +215,7 @@ stands_or_before m newer until (e ∷ es) u f h = elim (le_tells e.moment m) [
   ]
 ]
 
--- there is no other case
+-- each moment is in the span of some copy, before every copy, or not before the highest
 no_other_case : (m : ℤ) (entries : List Entry) → Falling entries
     → StandsAt m entries ⊎ ((e : Entry) → In e entries → m <ℤ e.moment) ⊎ (high ≤ℤ m)
 no_other_case m entries f = elim (lt_tells m high) [
@@ -239,7 +239,7 @@ as_of_is_the_copy_then t m entries f = record {
 
 -- ---- ranges
 
--- a copy that is met, below those that a walk has passed
+-- a copy that is met and has the row, among those after the copies that a walk has passed
 record Walked (t : ℕ) (Asked : ℤ → Type 0) (newer es : List Entry) (r : Stamped) : Type 0 where
   passed : List Entry
   copy : Entry
@@ -283,7 +283,7 @@ from_later t Asked newer e older r w = record {
   there = w.there;
 }
 
--- a copy met is the next one, or one of those behind it
+-- a copy that is met is the next one or one of the older ones
 here_or_later : (t : ℕ) (Asked : ℤ → Type 0) (newer : List Entry) (e : Entry) (older : List Entry) (r : Stamped)
     → Walked t Asked newer (e ∷ older) r
     → Here t Asked newer e r ⊎ Walked t Asked (newer ++ e ∷ []) older r
@@ -315,7 +315,7 @@ here_or_later t Asked newer e older r w = parted w.passed w.copy w.older w.whole
           there = m;
         })
 
--- a span that the test meets has a moment asked for
+-- a span that passes the test contains a moment asked for
 met_gives : (a b s until : ℤ) → meets a b s until ≡ true → (p : ℤ) × IsFromTo a b p × (s ≤ℤ p) × (p <ℤ until)
 met_gives a b s until h = (
   int_max a s,
@@ -324,20 +324,20 @@ met_gives a b s until h = (
   grind (arith, ints, clamps),
 )
 
--- and the other way
+-- the converse: a span that contains a moment asked for passes the test
 met_from : (a b s until p : ℤ) → IsFromTo a b p → s ≤ℤ p → p <ℤ until → meets a b s until ≡ true
 met_from a b s until p h k l = let x = h.0 in let y = h.1 in grind (arith, ints)
 
--- the rows that no version has
+-- whether no version is of the row
 abbrev fresh : List Version → Stamped → Bool
 fresh vs r = not (has_row (found_rows vs) r)
 
--- the test among versions is that among their rows
+-- the test for a version of a row is the membership test for the row
 has_version_is : (vs : List Version) (r : Stamped) → has_version vs r ≡ has_row (found_rows vs) r
 has_version_is [] r = refl
 has_version_is (v ∷ vs) r = ap (λ b. same_stamped r v.row || b) (has_version_is vs r)
 
--- the rows of versions that are new
+-- the rows of the versions that are added
 rows_fresh : (earlier : List Version) (ends : Stamped → ℤ) (rows : List Stamped)
     → found_rows (filter (λ v. not (has_version earlier v.row)) (completed ends rows)) ≡ filter (fresh earlier) rows
 rows_fresh earlier ends [] = refl
@@ -347,7 +347,7 @@ rows_fresh earlier ends (r ∷ rows) =
     (by_bool (has_row (found_rows earlier) r) (λ e. rw e later)
     (λ e. rw e (ap {B = List Stamped} (λ xs. r ∷ xs) later)))
 
--- of a copy that is met or not
+-- the same for a copy that is met or not
 rows_met : (earlier : List Version) (ends : Stamped → ℤ) (rows : List Stamped) (b : Bool)
     → found_rows (filter (λ v. not (has_version earlier v.row)) (if b then completed ends rows else [])) ≡ filter
     (fresh earlier) (if b then rows else [])
@@ -356,7 +356,7 @@ rows_met earlier ends rows false = refl
 
 module _ (t : ℕ) (Asked : ℤ → Type 0) (a b : ℤ) (asks : (p : ℤ) → Asked p → IsFromTo a b p)
     (asked : (p : ℤ) → IsFromTo a b p → Asked p) where
-  -- the versions of a walk
+  -- the versions that a walk finds
   abbrev walk : ℤ → (Stamped → ℤ) → List Entry → List Version
   walk until ends es = found_from until ends a b (table_history t es)
 
@@ -383,7 +383,7 @@ module _ (t : ℕ) (Asked : ℤ → Type 0) (a b : ℤ) (asks : (p : ℤ) → As
       met_from a b e.moment until h.moment (asks h.moment h.asked) h.held.begun
       (u.from h.moment h.held.before_later h.held.before_end)
 
-  -- a version that ends as its row does in some copy met
+  -- the version ends as its row does in some copy met
   abbrev Stands : List Entry → List Entry → Version → Type 0
   Stands newer es v = (w : Walked t Asked newer es v.row) × EndsAt t (newer ++ w.passed) v.row v.end
 
@@ -416,7 +416,7 @@ module _ (t : ℕ) (Asked : ℤ → Type 0) (a b : ℤ) (asks : (p : ℤ) → As
             )
       ]
 
-  -- how often a row stands in the versions: as often as the next copy adds it, and as in the rest
+  -- the multiplicity of a row in a walk: in the versions that the next copy adds, and in the rest
   times_found : (until : ℤ) (ends : Stamped → ℤ) (e : Entry) (older : List Entry) (r : Stamped)
       → times r (found_rows (walk until ends (e ∷ older)))
       ≡ cond (fresh (walk e.moment (ends_before (at t e) ends) older) r)
@@ -431,11 +431,11 @@ module _ (t : ℕ) (Asked : ℤ → Type 0) (a b : ℤ) (asks : (p : ℤ) → As
       (ap (times r) (rows_met earlier ends (rows_in e.copy t) (meets a b e.moment until))
       ∙ times_kept (fresh earlier) r rows)
 
-  -- a row of a copy met stands as often as in one of those
+  -- n is the multiplicity of the row in some copy met
   abbrev StandsAsIn : List Entry → List Entry → Stamped → ℕ → Type 0
   StandsAsIn newer es r n = (w : Walked t Asked newer es r) × (n ≡ times r (rows_in w.copy.copy t))
 
-  -- one copy more on the walk, where the law holds of the older ones
+  -- the step of a walk by one copy, if the law holds for the older ones
   each_step : (newer : List Entry) (until : ℤ) (ends : Stamped → ℤ) (e : Entry) (older : List Entry)
       → IsUntil newer until → AreEnds t newer ends → FallingFrom until (e ∷ older)
       → (r : Stamped)
@@ -528,11 +528,11 @@ module _ (t : ℕ) (Asked : ℤ → Type 0) (a b : ℤ) (asks : (p : ℤ) → As
         (given entries r s.0, s.1);
   }
 
--- up to b and before b + 1 are one
+-- a moment up to b is before b + 1
 up_to : (a b p : ℤ) → IsBetween a b p → IsFromTo a (b +ℤ pos 1) p
 up_to a b p h = (h.0, omega (arith, ints, h.1))
 
--- a moment before the one behind the last
+-- a moment before b + 1 is at most b
 not_past : (a b p : ℤ) → IsFromTo a (b +ℤ pos 1) p → IsBetween a b p
 not_past a b p h = (h.0, omega (arith, ints, h.1))
 
@@ -544,7 +544,7 @@ ranges_are_copies_met t a b entries f = record {
   between = of_copies_met t (IsBetween a b) a (b +ℤ pos 1) (up_to a b) (not_past a b) entries f;
 }
 
--- each form of a query finds what spans say
+-- the law: each form of a query reads the copies by their spans
 pub reads_by_spans : ReadsBySpans
 reads_by_spans t entries f = record {
   now = now_is_the_newest t entries;

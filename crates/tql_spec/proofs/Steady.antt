@@ -1,4 +1,4 @@
--- A statement leaves a row as often as it was, or takes it away; so rows are steady in every state that a run reaches.
+-- A statement keeps the multiplicity of a row or removes the row; so rows are steady in every reached state.
 use Rattle.std.proofs.Common.{◌≡◌, refl, sym, ap, subst, ◌∙◌, ℕ, ◌+◌, Bool, true, false, cond, List, [], ◌∷◌, ◌++◌, map}
 use Rattle.std.proofs.Common.{inl, inr, arith}
 use Rattle.std.specs.Prelude.{◌⊎◌, ℤ, ◌<ℤ◌, ◌≤ℤ◌, Option, Some, None}
@@ -20,8 +20,8 @@ use Rattle.tql_spec.proofs.MemberLists.{in_either, in_image, times_none, times_a
 
 -- ---- the rows that one change leaves
 
--- rows before and after a change at m: a row that is older than m stands as often as before or not at all, and none is
--- younger than m
+-- rows before and after a change at m: a row older than m keeps its multiplicity or is removed. No row after the change
+-- begins after m, if none did before
 pub record Passes (m : ℤ) (rows after : List Stamped) : Type 0 where
   pub as_before : (r : Stamped) → r.start <ℤ m → (times r after ≡ 0) ⊎ (times r after ≡ times r rows)
   pub not_after : ((r : Stamped) → In r rows → r.start ≤ℤ m) → (r : Stamped) → In r after → r.start ≤ℤ m
@@ -30,15 +30,15 @@ pub record Passes (m : ℤ) (rows after : List Stamped) : Type 0 where
 abbrev BeginAt : ℤ → List Stamped → Type 0
 BeginAt m rows = (r : Stamped) → In r rows → r.start ≡ m
 
--- an older row is none of those that begin at m
+-- an older row is not among rows that begin at m
 not_among : (m : ℤ) (new : List Stamped) → BeginAt m new → (r : Stamped) → r.start <ℤ m → times r new ≡ 0
 not_among m new b r h = times_none r new (λ n. let e = b r n in omega (arith, ints, e))
 
--- no change passes
+-- no change has this property
 unchanged : (m : ℤ) (rows : List Stamped) → Passes m rows rows
 unchanged m rows = record { as_before = λ r h. inr refl; not_after = λ k. k }
 
--- rows put behind, all of them new
+-- adding new rows at the end has this property
 added : (m : ℤ) (rows new : List Stamped) → BeginAt m new → Passes m rows (rows ++ new)
 added m rows new b = record {
   as_before = λ r h. inr (omega (arith, times_append r rows new, not_among m new b r h));
@@ -46,11 +46,11 @@ added m rows new b = record {
       (in_either r rows new n) [ inl i ↦ k r i | inr i ↦ let e = b r i in omega (arith, ints, e) ];
 }
 
--- rows that are stamped begin at the moment
+-- stamped rows begin at the moment
 stamped_begin : (d : TableDef) (m : ℤ) (rows : List Row) → BeginAt m (map (stamped d m) rows)
 stamped_begin d m rows r n = let i = in_image (stamped d m) r rows n in ap (λ (x : Stamped). x.start) i.2
 
--- an INSERT
+-- an INSERT has this property
 insert_passes : (d : TableDef) (m : ℤ) (rows : List Stamped) (columns : List ℕ) (o : Option (List (List Datum)))
     → Passes m rows (insert d m rows columns o).rows
 insert_passes d m rows columns None = unchanged m rows
@@ -64,11 +64,11 @@ insert_passes d m rows columns (Some tuples) = added m rows
 
 -- ---- fates
 
--- what replaces a row begins at m
+-- the rows that replace a row begin at m
 abbrev Begins : ℤ → (Stamped → Option Fate) → Type 0
 Begins m f = (r : Stamped) (new : List Stamped) → f r ≡ Some (Replaced new) → BeginAt m new
 
--- the first of all fates
+-- a list with its first element and the rest
 pub record FrontIs {A : Type 0} (o : Option A) (rest : Option (List A)) (all : List A) : Type 0 where
   pub head : A
   pub tail : List A
@@ -76,27 +76,27 @@ pub record FrontIs {A : Type 0} (o : Option A) (rest : Option (List A)) (all : L
   pub more : rest ≡ Some tail
   pub whole : all ≡ head ∷ tail
 
--- the fates of a first row and of the others
+-- a list made by `with_front` has a first element and a rest
 pub front_is : {A : Type 0} (o : Option A) (rest : Option (List A)) (all : List A) → with_front o rest ≡ Some all
     → FrontIs o rest all
 front_is None rest all e = absurd (cc)
 front_is (Some x) None all e = absurd (cc)
 front_is (Some x) (Some xs) all e = record { head = x; tail = xs; one = refl; more = refl; whole = cc }
 
--- a row in front
+-- the multiplicity in a list with one more row in front
 times_cons : (r x : Stamped) (xs : List Stamped) → times r (x ∷ xs) ≡ cond (same_stamped r x) 1 0 + times r xs
 times_cons r x xs = sum_by-cons (λ s. cond (same_stamped r s) 1 0) x xs
 
--- how often a row stands that another list begins with or not
+-- 1 if the rows are equal, else 0
 abbrev one_if : Stamped → Stamped → ℕ
 one_if r x = cond (same_stamped r x) 1 0
 
--- a row that is not another counts for nothing
+-- it is 0 for different rows
 apart : (r x : Stamped) → (r ≡ x → ⊥) → one_if r x ≡ 0
 apart r x h =
     by_bool (same_stamped r x) (λ e. absurd (h (same_stamped-is r x e))) (λ e. ap (λ b. cond {A = ℕ} b 1 0) e)
 
--- a row that some row was replaced by
+-- the row is among the rows that replace some row
 pub record IsMade (f : Stamped → Option Fate) (rows : List Stamped) (r : Stamped) : Type 0 where
   pub row : Stamped
   pub new : List Stamped
@@ -104,7 +104,7 @@ pub record IsMade (f : Stamped → Option Fate) (rows : List Stamped) (r : Stamp
   pub replaced : f row ≡ Some (Replaced new)
   pub there : In r new
 
--- a row that is there after the change was there before, or was made
+-- a row after the change is an old row, or one that replaces a row
 pub old_or_made : (f : Stamped → Option Fate) (rows : List Stamped) (fates : List Fate) → map_all f rows ≡ Some fates
     → (r : Stamped) → In r (after_fates rows fates) → In r rows ⊎ IsMade f rows r
 old_or_made f [] fates e r n = absurd n
@@ -128,7 +128,7 @@ old_or_made f (x ∷ rows) fates e r n =
     ]
 
 module _ (m : ℤ) (f : Stamped → Option Fate) (begins : Begins m f) where
-  -- a row that is not touched stands as often as before
+  -- a row that is not touched keeps its multiplicity
   stays : (rows : List Stamped) (fates : List Fate) → map_all f rows ≡ Some fates → (r : Stamped) → r.start <ℤ m
       → f r ≡ Some Untouched → times r (after_fates rows fates) ≡ times r rows
   stays [] fates e r h u = refl
@@ -151,7 +151,7 @@ module _ (m : ℤ) (f : Stamped → Option Fate) (begins : Begins m f) where
             ih,
           )
 
-  -- a row that is touched is gone
+  -- a row that is touched is removed
   goes : (rows : List Stamped) (fates : List Fate) → map_all f rows ≡ Some fates → (r : Stamped) → r.start <ℤ m
       → (f r ≡ Some Untouched → ⊥) → times r (after_fates rows fates) ≡ 0
   goes [] fates e r h u = refl
@@ -167,7 +167,7 @@ module _ (m : ℤ) (f : Stamped → Option Fate) (begins : Begins m f) where
       by_fate (Replaced new) ys q ih = omega
           (arith, times_append r new (after_fates rows ys), not_among m new (begins x new q) r h, ih)
 
-  -- what is there afterwards was there, or is new
+  -- a row after the change is an old row, or begins at m
   old_or_new : (rows : List Stamped) (fates : List Fate) → map_all f rows ≡ Some fates → (r : Stamped)
       → In r (after_fates rows fates) → In r rows ⊎ (r.start ≡ m)
   old_or_new rows fates e r n =
@@ -189,7 +189,7 @@ module _ (m : ℤ) (f : Stamped → Option Fate) (begins : Begins m f) where
     not_after = λ k r n. elim (old_or_new rows fates e r n) [ inl i ↦ k r i | inr q ↦ omega (arith, ints, q) ];
   }
 
--- ---- the rows that a statement leaves
+-- ---- the rows after a statement
 
 -- a touched row is replaced by rows that begin at m
 fate_begins : (d : TableDef) (m : ℤ) (portion : Option Period) (work : Work) (conds : List Cond)
@@ -209,7 +209,7 @@ fate_begins d m portion work conds r new q = touched (is_touched d portion conds
         let same : map (stamped d m) (pieces d portion (shown d r) rows) ≡ new = cc in
         subst (BeginAt m) same (stamped_begin d m (pieces d portion (shown d r) rows))
 
--- an UPDATE or a DELETE
+-- an UPDATE or a DELETE has this property
 modify_passes : (d : TableDef) (m : ℤ) (rows : List Stamped) (portion : Option Period) (work : Work) (conds : List Cond)
     → Passes m rows (modify d m rows portion work conds).rows
 modify_passes d m rows portion work conds = by_fates (map_all (λ r. fate d m portion work conds (shown d r)) rows) refl
@@ -220,8 +220,8 @@ modify_passes d m rows portion work conds = by_fates (map_all (λ r. fate d m po
     by_fates (Some fates) e =
         fates_pass m (λ r. fate d m portion work conds (shown d r)) (fate_begins d m portion work conds) rows fates e
 
--- each change leaves an older row as often as it was or takes it away, and makes rows of its moment: steady rows
--- stand on this
+-- each change keeps the multiplicity of an older row or removes it, and its new rows begin at its moment; used for the
+-- law of steady rows
 pub change_passes : (s : State) (m : ℤ) (copy : Copy) (c : Change)
     → Passes m (rows_in copy (changed_table c)) (outcome s m copy c).rows
 change_passes s m copy (InsertTuples t columns tuples) =

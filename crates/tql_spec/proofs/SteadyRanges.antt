@@ -1,4 +1,4 @@
--- Where rows are steady, any copy met that has a row tells how often it stands in a range, and where it ends.
+-- Where rows are steady, any copy met that has a row gives the row's multiplicity in a range, and its end.
 use Rattle.std.proofs.Common.{◌≡◌, ℕ, List, [], ◌∷◌, ◌++◌, refl, sym, ap, ◌∙◌, inl, inr, subst, append_assoc}
 use Rattle.std.proofs.Common.{append-nil}
 use Rattle.std.specs.Prelude.{◌⊎◌, ℤ}
@@ -10,21 +10,21 @@ use Rattle.tql_spec.specs.Spans.{AreOfAnyCopyMet, SteadyRangesAgree}
 use Rattle.tql_spec.proofs.MemberLists.{in_left, in_right}
 use Rattle.tql_spec.proofs.SpanLaws.{ends_later, ranges_are_copies_met}
 
--- ---- one list parted in two ways
+-- ---- one list split in two ways
 
--- the element stands in the first part
+-- the element is in the first part
 record InFirst {X : Type 0} (xs ys before after : List X) (x : X) : Type 0 where
   between : List X
   first : xs ≡ before ++ x ∷ between
   rest : after ≡ between ++ ys
 
--- the element stands in the second part
+-- the element is in the second part
 record InSecond {X : Type 0} (xs ys before after : List X) (x : X) : Type 0 where
   between : List X
   second : ys ≡ between ++ x ∷ after
   rest : before ≡ xs ++ between
 
--- where an element stands whose list is parted elsewhere
+-- an element of a list of two parts is in the first or in the second
 part_of : {X : Type 0} (xs ys before : List X) (x : X) (after : List X) → xs ++ ys ≡ before ++ x ∷ after
     → InFirst xs ys before after x ⊎ InSecond xs ys before after x
 part_of [] ys before x after q = inr (record { between = before; second = q; rest = refl })
@@ -37,7 +37,7 @@ part_of (y ∷ xs) ys (z ∷ before) x after q = elim (part_of xs ys before x af
 
 -- ---- ends over copies that all have the row
 
--- the end of a row over more copies that all have it
+-- the end of a row does not change with more copies that all have it
 ends_further : (t : ℕ) (newer more : List Entry) (r : Stamped) (end : ℤ) → EndsAt t newer r end → InEach t more r
     → EndsAt t (newer ++ more) r end
 ends_further t newer [] r end h k = subst (λ ls. EndsAt t ls r end) (sym (append-nil newer)) h
@@ -45,7 +45,7 @@ ends_further t newer (e ∷ more) r end h k =
     subst (λ ls. EndsAt t ls r end) (append_assoc newer (e ∷ []) more)
     (ends_further t (newer ++ e ∷ []) more r end (ends_later t newer e r end h (k e (inl refl))) (λ c m. k c (inr m)))
 
--- and over fewer
+-- the end of a row does not change with fewer copies that all have it
 ends_sooner : (t : ℕ) (newer more : List Entry) (r : Stamped) (end : ℤ) → EndsAt t (newer ++ more) r end
     → InEach t more r → EndsAt t newer r end
 ends_sooner t newer more r end (inl h) k = inl ((λ c m. h.0 c (in_left c newer more m)), h.1)
@@ -66,7 +66,7 @@ ends_sooner t newer more r end (inr i) k = elim (part_of newer more i.newer i.la
 
 -- ---- two copies of a history that have a row
 
--- the row ends in one as it does in the other
+-- a row has the same end in two copies of a history
 ends_in_each : (t : ℕ) (entries : List Entry) → IsSteady t entries
     → (r : Stamped) (end : ℤ) (l : List Entry) (c : Entry) (o l' : List Entry) (c' : Entry) (o' : List Entry)
     → entries ≡ l ++ c ∷ o → entries ≡ l' ++ c' ∷ o' → In r (rows_in c.copy t) → In r (rows_in c'.copy t)
@@ -98,7 +98,7 @@ among : (t : ℕ) (Asked : ℤ → Type 0) (entries : List Entry) (r : Stamped) 
 among t Asked entries r c =
     subst (λ (xs : List Entry). In c.copy xs) (sym c.whole) (in_right c.copy c.later (c.copy ∷ c.older) (inl refl))
 
--- any copy met tells, where one of them does
+-- if one copy met gives the multiplicity and the end of a row, any copy met that has it does
 any_copy : (t : ℕ) (Asked : ℤ → Type 0) (entries : List Entry) (vs : List Version) → IsSteady t entries
     → AreOfCopiesMet t Asked entries vs → AreOfAnyCopyMet t Asked entries vs
 any_copy t Asked entries vs s h = record {
@@ -112,7 +112,7 @@ any_copy t Asked entries vs s h = record {
       d.0.there c.there d.1;
 }
 
--- which of the copies met is asked makes no difference where rows are steady
+-- the law: where rows are steady, it does not matter which of the copies met is used
 pub steady_ranges_agree : SteadyRangesAgree
 steady_ranges_agree t a b entries f s =
     let h = ranges_are_copies_met t a b entries f in

@@ -1,5 +1,5 @@
--- Each copy leaves the rows of the one before it as often as they were, or takes them away: kept by each statement,
--- and why rows are steady.
+-- Each copy keeps the multiplicity of the rows of the one before it, or removes them. Statements preserve this, so rows
+-- are steady.
 use Rattle.std.proofs.Common.{◌≡◌, refl, sym, ap, subst, ◌∙◌, ℕ, List, [], ◌∷◌, ◌++◌, map, inl, inr, arith, Bool, true}
 use Rattle.std.proofs.Common.{false}
 use Rattle.std.specs.Prelude.{◌⊎◌, slice_set, remove, ℤ, ◌<ℤ◌, ◌≤ℤ◌, Option, Some, None, int_le, if◌then◌else◌}
@@ -25,32 +25,32 @@ use Rattle.tql_spec.proofs.Steady.{Passes, change_passes}
 use Rattle.tql_spec.proofs.SpanLaws.{reads_by_spans}
 use Rattle.tql_spec.proofs.SteadyRanges.{steady_ranges_agree}
 
--- ---- one copy after another
+-- ---- consecutive copies
 
--- rows of a copy of the moment m: those that began before m stand as often as in the one before it, where there is one,
--- or not at all, and none begins later
+-- rows of a copy of the moment m: a row that began before m has the multiplicity that it has in the copy before, if
+-- there is one, or is removed. No row begins after m
 record Leaves (m : ℤ) (rows : List Stamped) (old : Option (List Stamped)) : Type 0 where
   as_before : (r : Stamped) (before : List Stamped) → old ≡ Some before → r.start <ℤ m
       → (times r rows ≡ 0) ⊎ (times r rows ≡ times r before)
   not_after : (r : Stamped) → In r rows → r.start ≤ℤ m
 
--- a table's rows in the newest copy, where there is one
+-- a table's rows in the newest copy, if there is one
 abbrev newest_rows : ℕ → List Entry → Option (List Stamped)
 newest_rows t [] = None
 newest_rows t (e ∷ es) = Some (rows_in e.copy t)
 
--- in each table
+-- this holds for each table
 abbrev Follows : ℤ → Copy → List Entry → Type 0
 Follows m copy older = (t : ℕ) → Leaves m (rows_in copy t) (newest_rows t older)
 
--- each copy follows the one before it; of the oldest no more is said than that no row begins later
+-- each copy follows the one before it; of the oldest copy, only that no row begins after it
 abbrev Chain : List Entry → Type 0
 Chain [] = Unit {0}
 Chain (e ∷ es) = Follows e.moment e.copy es × Chain es
 
--- ---- from copies that follow one another to steady rows
+-- ---- from consecutive copies to steady rows
 
--- a row that began before the copies down to an older one is in each of them, as often
+-- a row of c that began by the moment of an older copy d is in each copy between, and as often in d as in c
 down_to : (t : ℕ) (r : Stamped) (c : Entry) (between : List Entry) (d : Entry) (older : List Entry)
     → Chain (c ∷ (between ++ d ∷ older)) → FallingFrom c.moment (between ++ d ∷ older)
     → In r (rows_in c.copy t) → r.start ≤ℤ d.moment
@@ -80,30 +80,30 @@ down_to t r c (e ∷ between) d older k f n h =
     below until [] g = g.0
     below until (x ∷ xs) g = let l = below x.moment xs g.1 in omega (arith, ints, g.0)
 
--- of two entries one stands before the other, or they are one
+-- a member of a list has a position in it
 part_at : (x : Entry) (xs : List Entry) → In x xs
     → (before : List Entry) × (after : List Entry) × (xs ≡ before ++ x ∷ after)
 part_at x [] m = absurd m
 part_at x (y ∷ ys) (inl e) = ([], ys, ap {B = List Entry} (λ (z : Entry). z ∷ ys) (sym e))
 part_at x (y ∷ ys) (inr m) = let p = part_at x ys m in (y ∷ p.0, p.1, ap {B = List Entry} (λ zs. y ∷ zs) p.2)
 
--- what holds of all copies holds of those from some copy on
+-- the older copies of a chain are a chain
 drop_chain : (newer es : List Entry) → Chain (newer ++ es) → Chain es
 drop_chain [] es k = k
 drop_chain (x ∷ newer) es k = drop_chain newer es k.1
 
--- and their moments fall
+-- the moments of the older copies decrease
 drop_falling : (until : ℤ) (newer : List Entry) (c : Entry) (es : List Entry) → FallingFrom until (newer ++ c ∷ es)
     → FallingFrom c.moment es
 drop_falling until [] c es f = f.1
 drop_falling until (x ∷ newer) c es f = drop_falling x.moment newer c es f.1
 
--- no row of a copy begins after it
+-- no row of a copy begins after the copy
 begun_by : (t : ℕ) (r : Stamped) (d : Entry) (older : List Entry) → Chain (d ∷ older) → In r (rows_in d.copy t)
     → r.start ≤ℤ d.moment
 begun_by t r d older k n = (k.0 t).not_after r n
 
--- the newest copy and an older one
+-- a row has the same multiplicity in the newest copy and in an older one that has it
 newest_and : (t : ℕ) (r : Stamped) (c : Entry) (es : List Entry) (d : Entry) → Chain (c ∷ es)
     → FallingFrom c.moment es → In d es → In r (rows_in c.copy t) → In r (rows_in d.copy t)
     → times r (rows_in c.copy t) ≡ times r (rows_in d.copy t)
@@ -113,7 +113,7 @@ newest_and t r c es d k f m n o =
     (down_to t r c p.0 d p.1 chain (subst (FallingFrom c.moment) p.2 f) n
     (begun_by t r d p.1 (drop_chain (c ∷ p.0) (d ∷ p.1) chain) o)).1
 
--- a row stands equally often in any two copies that have it
+-- a row has the same multiplicity in any two copies that have it
 one_for_all : (t : ℕ) (until : ℤ) (es : List Entry) → Chain es → FallingFrom until es → (r : Stamped) (c d : Entry)
     → In c es → In d es → In r (rows_in c.copy t) → In r (rows_in d.copy t)
     → times r (rows_in c.copy t) ≡ times r (rows_in d.copy t)
@@ -141,15 +141,15 @@ steady t es k f = record {
       (begun_by t r d older (drop_chain (c ∷ between) (d ∷ older) chain) j)).0;
 }
 
--- ---- what a statement keeps
+-- ---- the effects of statements
 
--- the same rows in other places
+-- the property for equal rows
 leaves_as : (m : ℤ) {rows rows' : List Stamped} {old old' : Option (List Stamped)} → rows' ≡ rows → old' ≡ old
     → Leaves m rows old
     → Leaves m rows' old'
 leaves_as m {rows} {rows'} {old} {old'} p q l = subst (λ x. Leaves m x old') (sym p) (subst (Leaves m rows) (sym q) l)
 
--- each table stands in each copy where another stood, none beyond the last
+-- a chain stays a chain if each copy gets its tables from others by the same map of indices
 chain_in_each : (g : Copy → Copy) (from : ℕ → ℕ)
     → ((copy : Copy) (t : ℕ) → rows_in (g copy) t ≡ rows_in copy (from t)) → (es : List Entry) → Chain es
     → Chain (map (λ (e : Entry). record e { copy = g e.copy }) es)
@@ -162,7 +162,7 @@ chain_in_each g from h (e
     below [] t = refl
     below (x ∷ xs) t = ap (λ rows. Some rows) (h x.copy t)
 
--- what a horizon leaves
+-- the copies that a horizon leaves are a chain
 chain_pruned : (h : ℤ) (es : List Entry) → Chain es → Chain (pruned h es)
 chain_pruned h [] k = tt
 chain_pruned h (e ∷ es) k = either (int_le e.moment h) (chain_pruned h es k.1)
@@ -175,11 +175,11 @@ chain_pruned h (e ∷ es) k = either (int_le e.moment h) (chain_pruned h es k.1)
     either true rest = ((λ t. record { as_before = λ r before q. absurd (cc); not_after = (k.0 t).not_after }), tt)
     either false rest = ((λ t. leaves_as e.moment refl (same t es) (k.0 t)), rest)
 
--- two options of one value
+-- `Some` is injective
 some_is : (x y : List Stamped) → Some x ≡ Some y → x ≡ y
 some_is x y q = cc
 
--- a copy of the copies' newest, later than it
+-- the newest copy, repeated at a later moment, follows
 leaves_same : (m : ℤ) (defs : List TableDef) (es : List Entry) → Chain es → FallingFrom m es
     → Follows m (newest_copy defs es) es
 leaves_same m defs [] k f t = record {
@@ -193,7 +193,7 @@ leaves_same m defs (e ∷ es) k f t =
           (arith, ints, l, f.0);
     }
 
--- a change in one copy
+-- a copy with one changed table still follows
 changed_follows : (s : State) (m : ℤ) (copy : Copy) (old : List Entry) (c : Change) → Follows m copy old
     → Follows m (slice_set copy (changed_table c) (outcome s m copy c).rows) old
 changed_follows s m copy old c k t = elim (rows_set copy (changed_table c) (outcome s m copy c).rows t) [
@@ -212,12 +212,12 @@ changed_follows s m copy old c k t = elim (rows_set copy (changed_table c) (outc
       not_after = p.not_after l.not_after;
     }
 
--- in order, and each copy follows the one before it
+-- the state is in order, and each copy follows the one before it
 record IsChained (s : State) : Type 0 where
   in_order : IsInOrder s
   chain : Chain (entries s)
 
--- each effect keeps the chain
+-- each effect preserves the chain
 effect_chained : (base : State) (defs : List TableDef) (history : List Entry) (next : ℤ) (begun : Option Entry)
     (b : Bound)
     → state_faults (state base defs history next begun) (class_of b) ≡ []
@@ -256,7 +256,7 @@ effect_chained base defs history next (Some w) (ChangeRows c) e o k =
 effect_chained base defs history next begun (AnswerQuery q) e o k =
     asked_stays (λ x. Chain (entries x)) (state base defs history next begun) q _ k
 
--- each statement that is taken keeps it
+-- each accepted statement preserves it
 keeps_chained : EffectKeeps IsChained
 keeps_chained s t k c = record {
   in_order = keeps_in_order s t k c.in_order;
@@ -264,14 +264,14 @@ keeps_chained s t k c = record {
       (bind s.definitions t).value k.free c.in_order c.chain;
 }
 
--- rows are steady in every state that a run reaches
+-- the law: rows are steady in every state that a run reaches
 pub reached_are_steady : ReachedAreSteady
 reached_are_steady s r t =
     let c = run_keeps IsChained keeps_chained new_state r.pieces r.replies s r.run
     (record { in_order = first_in_order; chain = tt }) in
     steady t (entries s) c.chain c.in_order.falling
 
--- so queries there find what spans say, and any copy met will do
+-- the law: queries there read the copies by their spans; for a range, any copy met that has a row will do
 pub reached_read_by_spans : ReachedReadBySpans
 reached_read_by_spans s r t =
     let falling = (reached_in_order s r).falling in

@@ -1,4 +1,4 @@
--- The first token of a text, and that a text has one list of tokens.
+-- The first token of a text; a text has at most one list of tokens.
 use Rattle.std.proofs.Common.{◌≡◌, ℕ, suc, ◌+◌, ◌<◌, ◌==◌, Bool, true, false, cond, List, [], ◌∷◌, ◌++◌, length, take}
 use Rattle.std.proofs.Common.{drop, Option, Some, None, refl, sym, ap, ◌∙◌, subst, arith, append-nil, append_assoc}
 use Rattle.std.proofs.Common.{take-append-drop, length-append, inl, inr}
@@ -35,7 +35,7 @@ more_is (Some m) n e = (m, refl, cc)
 same_self : (b : ℕ) → (b == b) ≡ true
 same_self b = eq-eqb b b refl
 
--- ---- what is as long as it can be
+-- ---- longest tokens
 
 pub stops : (t : Token) (rest : List ℕ) → IsLongest t rest → begins (lengthens t) rest ≡ false
 stops t [] h = refl
@@ -102,7 +102,7 @@ abbrev behind : Bool → ℕ → List ℕ → List ℕ
 behind true q bs = q ∷ bs
 behind false q bs = bs
 
--- the quote ends there
+-- the quoted text ends after n bytes
 record QuoteEnds (q : ℕ) (again : Bool) (bs : List ℕ) (n : ℕ) : Type 0 where
   text : List ℕ
   rest : List ℕ
@@ -158,7 +158,7 @@ quote_sound q true (b ∷ bs) n e = by (b == q) refl e (quote_sound q false bs) 
     other = t;
   }
 
--- ---- what begins at a byte
+-- ---- the first byte
 
 abbrev Means : Start → ℕ → Type 0
 Means LetterStart b = is_letter b ≡ true
@@ -198,9 +198,9 @@ means b =
     (means_if (b == 62) MoreStart _ b (eqb-true b 62)
     (means_if (b == 45) MinusStart _ b (eqb-true b 45) (means_symbol b)))))))
 
--- ---- the first token, read
+-- ---- reading the first token
 
--- these bytes begin with a token of this sort and length
+-- the bytes begin with a token of this sort and length
 pub record Reads (bytes : List ℕ) (s : Sort) (n : ℕ) : Type 0 where
   pub text : List ℕ
   pub rest : List ℕ
@@ -355,9 +355,9 @@ pub first_token_sound : (bytes : List ℕ) (s : Sort) (n : ℕ) → first_token 
 first_token_sound [] s n e = absurd cc
 first_token_sound (b ∷ bs) s n e = sound_from (start_of b) b bs s n (means b) e
 
--- ---- the first token, again
+-- ---- reading a token that is spelled
 
--- these bytes are read as this token, and the rest is left
+-- the bytes are read as this token, followed by the rest
 pub record IsRead (t : Token) (text rest : List ℕ) : Type 0 where
   pub sort : Sort
   pub read_again : first_token (text ++ rest) ≡ read sort (length text)
@@ -500,7 +500,7 @@ comment_unread b bs e =
 pub none_some : {X : Type 0} (x : X) → Option.None ≡ Option.Some x → ⊥
 none_some x e = cc
 
--- what is read is neither a blank nor a comment
+-- a token that is read does not begin with a blank or a comment
 pub no_lead : (bytes : List ℕ) (s : Sort) (n : ℕ) → first_token bytes ≡ read s n → without_lead false bytes ≡ bytes
 no_lead [] s n e = refl
 no_lead (b ∷ bs) s n e = by (is_blank b) refl (begins_comment b bs) refl where
@@ -547,7 +547,7 @@ same_split text other rest left e n = record {
       ∙ drop_at other left (length text) (sym n);
 }
 
--- behind the gap stands the first token
+-- the first token is after the blanks and comments
 pub token_stands : (t : Token) (bytes gap text rest : List ℕ) → bytes ≡ gap ++ text ++ rest → IsGap gap → Spells t text
     → IsLongest t rest → without_lead false bytes ≡ text ++ rest
 token_stands t bytes gap text rest parts g spelled longest =

@@ -1,4 +1,4 @@
--- What CREATE TABLE defines, and why rows fit their tables in every state that a run reaches.
+-- The generated columns of created tables, and rows that fit their tables in every state that a run reaches.
 use Rattle.std.proofs.Common.{◌≡◌, ◌<◌, refl, sym, ap, subst, ◌∙◌, ℕ, zero, suc, Bool, true, false, List, [], ◌∷◌, ◌++◌}
 use Rattle.std.proofs.Common.{map, get_or, length, inl, inr, arith}
 use Rattle.std.specs.Prelude.{◌||◌, not, remove, slice_set, ℤ, Option, Some, None, if◌then◌else◌}
@@ -35,12 +35,12 @@ use Rattle.tql_spec.proofs.Widths.{IsPair, IsProper, Sound, AllFit, change_fits}
 
 -- ---- the generated columns of a new table
 
--- a name stands at its number
+-- the name is at index i of the list
 pub record IsAt (n : Name) (names : List Name) (i : ℕ) : Type 0 where
   pub within : i < length names
   pub named : get_or names i [] ≡ n
 
--- a number that is found is a place of the name
+-- an index that is found is one of the name
 pub is_at : (n : Name) (names : List Name) (i : ℕ) → number_in n names ≡ Some i → IsAt n names i
 is_at n [] i e = absurd (cc)
 is_at n (x ∷ names) i e = by_bool (same_text n x)
@@ -59,7 +59,7 @@ is_at n (x ∷ names) i e = by_bool (same_text n x)
         let l = at.within in
         subst (IsAt n (x ∷ names)) (some_is (suc k) i q) (record { within = omega arith; named = at.named })
 
--- a column without a fault is found
+-- a column reference without a fault is at its index
 pub number_found : (names : List Name) (n : Name) → (column_number names n).faults ≡ []
     → IsAt n names (column_number names n).value
 number_found names n e = by_number (number_in n names) refl e
@@ -68,12 +68,12 @@ number_found names n e = by_number (number_in n names) refl e
     by_number None q f = absurd (cc)
     by_number (Some i) q f = is_at n names i q
 
--- no part of a false OR holds
+-- the first part of a false OR is false
 pub first_false : (a b c : Bool) → a || b || c ≡ false → a ≡ false
 first_false false b c e = refl
 first_false true b c e = absurd (cc)
 
--- the columns of a system period without a fault are two of the table's
+-- the columns of a system period without a fault are two different columns of the table
 pub period_is_pair : (es : List Element) (p : PeriodPart) → (system_period es p).faults ≡ []
     → IsPair (length (columns_of es)) (system_period es p).value
 period_is_pair es p e =
@@ -105,7 +105,7 @@ period_is_pair es p e =
     never : true ≡ false → ⊥
     never q = cc
 
--- a system period without a fault names two columns
+-- the same for the first of several system periods
 first_is_pair : (es : List Element) (parts : List PeriodPart) → (check_each (system_period es) parts).faults ≡ []
     → IsProper (length (columns_of es)) (first_of (check_each (system_period es) parts).value)
 first_is_pair es [] e s q = absurd (cc)
@@ -123,7 +123,7 @@ created_sound defs n es versioned e =
     subst (λ k. IsProper k (first_of (check_each (system_period es) (system_parts es)).value))
     (sym (length-map (columns_of es) _)) (first_is_pair es (system_parts es) three)
 
--- a table that a statement creates
+-- CREATE TABLE, bound without a fault, gives a sound definition
 created : (defs : List TableDef) (st : Statement) → (bind defs st).faults ≡ [] → (d : TableDef)
     → (bind defs st).value ≡ CreateTable d → Sound d
 created defs (CreateTree n x es versioned) e d q =
@@ -150,14 +150,14 @@ created defs (CloseTree n) e d q = absurd (cc)
 abbrev AllSound : List TableDef → Type 0
 AllSound defs = (t : ℕ) → Sound (table_at defs t)
 
--- one definition more
+-- this stays so with one more definition
 sound_more : (defs : List TableDef) (d : TableDef) → AllSound defs → Sound d → AllSound (defs ++ d ∷ [])
 sound_more [] d h k zero s q = k s q
 sound_more [] d h k (suc t) s q = absurd (cc)
 sound_more (x ∷ defs) d h k zero s q = h zero s q
 sound_more (x ∷ defs) d h k (suc t) s q = sound_more defs d (λ i. h (suc i)) k t s q
 
--- one less
+-- this stays so with one definition removed
 sound_less : (defs : List TableDef) (k : ℕ) → AllSound defs → AllSound (remove defs k)
 sound_less defs k h t = subst Sound (sym (removed_at defs k t no_table)) (h (skip k t))
 
@@ -167,13 +167,13 @@ sound_less defs k h t = subst Sound (sym (removed_at defs k t no_table)) (h (ski
 abbrev CopyRowsFit : List TableDef → Copy → Type 0
 CopyRowsFit defs copy = (t : ℕ) → AllFit (table_at defs t) (rows_in copy t)
 
--- a table with rows is within the copy
+-- a table with rows has an index within the copy
 pub there_within : (copy : Copy) (t : ℕ) (r : Stamped) → In r (rows_in copy t) → t < length copy
 there_within [] t r m = absurd m
 there_within (rows ∷ copy) zero r m = omega arith
 there_within (rows ∷ copy) (suc t) r m = let l = there_within copy t r m in omega arith
 
--- one table more
+-- rows fit with one more table
 rows_fit_more : (defs : List TableDef) (d : TableDef) (copy : Copy) → length copy ≡ length defs
     → CopyRowsFit defs copy → CopyRowsFit (defs ++ d ∷ []) (copy ++ [] ∷ [])
 rows_fit_more defs d copy n h t r m =
@@ -181,14 +181,14 @@ rows_fit_more defs d copy n h t r m =
     let within = there_within copy t r there in
     subst (λ (x : TableDef). Fits x r) (sym (get_or-append defs (d ∷ []) no_table t (omega arith))) (h t r there)
 
--- one less
+-- rows fit with one table removed
 rows_fit_less : (defs : List TableDef) (k : ℕ) (copy : Copy) → CopyRowsFit defs copy
     → CopyRowsFit (remove defs k) (remove copy k)
 rows_fit_less defs k copy h t r m =
     subst (λ (x : TableDef). Fits x r) (sym (removed_at defs k t no_table))
     (h (skip k t) r (subst (λ xs. In r xs) (removed_at copy k t []) m))
 
--- each row of each copy
+-- each row of each copy fits its table
 abbrev EntriesFit : List TableDef → List Entry → Type 0
 EntriesFit defs es = (e : Entry) → In e es → CopyRowsFit defs e.copy
 
@@ -198,7 +198,7 @@ newest_rows_fit : (defs : List TableDef) (es : List Entry) → EntriesFit defs e
 newest_rows_fit defs [] h t r m = absurd (subst (λ xs. In r xs) (no_rows defs t) m)
 newest_rows_fit defs (e ∷ es) h t r m = h e (inl refl) t r m
 
--- what is done to every copy, for CREATE and DROP
+-- rows fit after the same change of every copy, for CREATE and DROP
 rows_in_each : (g : Copy → Copy) (defs new : List TableDef) (es : List Entry)
     → ((e : Entry) → In e es → CopyRowsFit new (g e.copy))
     → EntriesFit new (map (λ (e : Entry). record e { copy = g e.copy }) es)
@@ -206,13 +206,13 @@ rows_in_each g defs new es k e m =
     let i = in_image (λ (x : Entry). record x { copy = g x.copy }) e es m in subst
     (λ (x : Entry). CopyRowsFit new x.copy) (sym i.2) (k i.0 i.1)
 
--- one more entry
+-- rows fit with one more entry in front
 first_rows : (defs : List TableDef) (e : Entry) (es : List Entry) → CopyRowsFit defs e.copy → EntriesFit defs es
     → EntriesFit defs (e ∷ es)
 first_rows defs e es h k x (inl q) = subst (λ (y : Entry). CopyRowsFit defs y.copy) (sym q) h
 first_rows defs e es h k x (inr m) = k x m
 
--- a change in one copy
+-- rows fit after a change of one table in a copy
 changed_rows_fit : (s : State) (m : ℤ) (copy : Copy) (c : Change) → AllSound s.definitions
     → CopyRowsFit s.definitions copy
     → CopyRowsFit s.definitions (slice_set copy (changed_table c) (outcome s m copy c).rows)
@@ -231,11 +231,11 @@ record AreFit (s : State) : Type 0 where
   sound : AllSound s.definitions
   rows : RowsFit s
 
--- definitions and rows
+-- definitions are sound, and rows fit
 abbrev FitBoth : State → Type 0
 FitBoth s = AllSound s.definitions × RowsFit s
 
--- each effect keeps that rows fit
+-- each effect preserves this
 effect_rows : (base : State) (defs : List TableDef) (history : List Entry) (next : ℤ) (begun : Option Entry) (b : Bound)
     → state_faults (state base defs history next begun) (class_of b) ≡ []
     → ((d : TableDef) → b ≡ CreateTable d → Sound d) → CopiesFit (state base defs history next begun)
@@ -285,7 +285,7 @@ effect_rows base defs history next (Some w) (ChangeRows c) e g f h =
 effect_rows base defs history next begun (AnswerQuery q) e g f h =
     asked_stays FitBoth (state base defs history next begun) q _ h
 
--- each statement that is taken keeps it
+-- each accepted statement preserves that all fit
 keeps_rows_fit : EffectKeeps AreFit
 keeps_rows_fit s t k f =
     let both : FitBoth (effect s
@@ -293,11 +293,11 @@ keeps_rows_fit s t k f =
     (bind s.definitions t).value k.free (created s.definitions t k.sound) f.copies (f.sound, f.rows) in
     record { copies = keeps_fit s t k f.copies; sound = both.0; rows = both.1 }
 
--- the first state has it
+-- in the first state all fit
 first_fit : AreFit new_state
 first_fit = record { copies = λ e m. absurd m; sound = λ t s q. absurd (cc); rows = λ e m. absurd m }
 
--- copies and rows fit in every state that a run reaches
+-- the law: in every state that a run reaches, copies and rows fit
 pub reached_all_fit : ReachedFit
 reached_all_fit s r =
     let f = run_keeps AreFit keeps_rows_fit new_state r.pieces r.replies s r.run first_fit in (f.copies, f.rows)

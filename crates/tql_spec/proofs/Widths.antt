@@ -1,4 +1,4 @@
--- Rows have as many cells as their tables have columns that are not generated.
+-- Rows have one cell for each column of their table that is not generated.
 use Rattle.std.proofs.Common.{◌≡◌, ◌<◌, refl, sym, ap, subst, ◌∙◌, ℕ, ◌+◌, zero, suc, Bool, true, false, List, [], ◌∷◌}
 use Rattle.std.proofs.Common.{◌++◌, map, length, inl, inr, arith}
 use Rattle.std.specs.Prelude.{insert, remove, replicate, slice_set, nat_lt, ℤ, Option, Some, None}
@@ -24,26 +24,26 @@ use Rattle.tql_spec.proofs.Members.{by_bool}
 use Rattle.tql_spec.proofs.MemberLists.{in_either, in_image}
 use Rattle.tql_spec.proofs.Steady.{old_or_made}
 
--- two columns of so many
+-- two different columns among n
 pub record IsPair (n : ℕ) (s : System) : Type 0 where
   pub start_there : s.start < n
   pub end_there : s.end < n
   pub apart : s.start ≡ s.end → ⊥
 
--- the generated columns, where there are any, are two of the table's
+-- the generated columns, if any, are two different columns of the table
 abbrev pub IsProper : ℕ → Option System → Type 0
 IsProper n o = (s : System) → o ≡ Some s → IsPair n s
 
 -- ---- cells
 
--- one cell more
+-- inserting an element adds 1 to the length
 inserted : {X : Type 0} (xs : List X) (i : ℕ) (x : X) → length (insert xs i x) ≡ length xs + 1
 inserted [] zero x = refl
 inserted [] (suc i) x = refl
 inserted (y ∷ xs) zero x = omega arith
 inserted (y ∷ xs) (suc i) x = let e = inserted xs i x in omega arith
 
--- a row with its generated cells
+-- the length of a row with its generated cells
 pub with_length : (o : Option System) (cells : Row) (a b : ℤ)
     → length (with_generated o cells a b) ≡ length cells + length (generated_columns o)
 with_length None cells a b = omega arith
@@ -59,7 +59,7 @@ with_length (Some s) cells a b = by_bool (nat_lt s.start s.end)
       inserted cells s.end (Moment b),
     )))
 
--- a row without them
+-- the length of a row without its generated cells
 pub without_length : (o : Option System) (row : Row) → IsProper (length row) o
     → length (without_generated o row) + length (generated_columns o) ≡ length row
 without_length None row k = omega arith
@@ -86,7 +86,7 @@ without_length (Some s) row k = by_bool (nat_lt s.start s.end)
         let r = length-remove (remove row s.start) s.end (omega arith) in
         omega (arith, r)
 
--- the columns of a table
+-- the number of columns of a table
 abbrev pub width : TableDef → ℕ
 width d = length d.columns
 
@@ -94,24 +94,24 @@ width d = length d.columns
 abbrev pub Sound : TableDef → Type 0
 Sound d = IsProper (length d.columns) d.system
 
--- a row that fits shows a cell for each column
+-- a row that fits, as a change sees it, has a cell for each column
 pub shown_length : (d : TableDef) (r : Stamped) → Fits d r → length (shown d r) ≡ width d
 shown_length d r f = with_length d.system r.cells r.start high ∙ f
 
--- a full row that is stamped fits
+-- a full row fits when stamped
 pub stamped_fits : (d : TableDef) (m : ℤ) (row : Row) → Sound d → length row ≡ width d → Fits d (stamped d m row)
 stamped_fits d m row k e = without_length d.system row (subst (λ n. IsProper n d.system) (sym e) k) ∙ e
 
 -- ---- rows that a change makes
 
--- cells filled in change no length
+-- filling cells does not change the length
 pub filled_length : (row : Row) (columns : List ℕ) (values : List Datum)
     → length (filled row columns values) ≡ length row
 filled_length row [] values = refl
 filled_length row (c ∷ cs) [] = refl
 filled_length row (c ∷ cs) (v ∷ vs) = filled_length (slice_set row c v) cs vs ∙ length-set row c v
 
--- nor do cells assigned
+-- assigning cells does not change the length
 pub assigned_length : (old row : Row) (sets : List Assignment) (new : Row) → assigned old row sets ≡ Some new
     → length new ≡ length row
 assigned_length old row [] new e = let q : row ≡ new = cc in ap length (sym q)
@@ -125,17 +125,17 @@ assigned_length old row (a ∷ more) new e = at_value (eval [] old a.value)
     at_value None ih q = absurd (cc)
     at_value (Some v) ih q = ih v q ∙ length-set row a.column v
 
--- nor a period put in
+-- setting a period does not change the length
 pub with_period_length : (o : Option Application) (p : Period) (row : Row)
     → length (with_period_by o p row) ≡ length row
 with_period_length None p row = refl
 with_period_length (Some a) p row = length-set (slice_set row a.start _) a.end _ ∙ length-set row a.start _
 
--- rows of so many cells
+-- each row has n cells
 abbrev pub AllWide : ℕ → List Row → Type 0
 AllWide n rows = (row : Row) → In row rows → length row ≡ n
 
--- what a row is made into is as wide
+-- the rows that a row becomes have the same length
 pub made_wide : (work : Work) (row : Row) (made : List Row) → made_of work row ≡ Some made → AllWide (length row) made
 made_wide Work.Remove row made e x m = let q : [] ≡ made = cc in absurd (subst (λ (xs : List Row). In x xs) (sym q) m)
 made_wide (Work.Set sets) row made e x m = at_row (assigned row row sets) (assigned_length row row sets) e x m
@@ -147,7 +147,7 @@ made_wide (Work.Set sets) row made e x m = at_row (assigned row row sets) (assig
         let same : new ∷ [] ≡ made = cc in
         elim (subst (λ (xs : List Row). In x xs) (sym same) m) [ inl z ↦ ap length z ∙ h new refl | inr z ↦ absurd z ]
 
--- so are the parts that a portion leaves
+-- the pieces of a changed row have the same length
 pub pieces_wide : (d : TableDef) (portion : Option Period) (row : Row) (made : List Row) → AllWide (length row) made
     → AllWide (length row) (pieces d portion row made)
 pieces_wide d None row made h x m = h x m
@@ -173,17 +173,17 @@ pieces_wide d (Some portion) row made h x m = elim
     own ps n =
         let i = in_image (λ p. with_period d p row) x ps n in ap length i.2 ∙ with_period_length d.application i.0 row
 
--- rows that fit
+-- each of the rows fits
 abbrev pub AllFit : TableDef → List Stamped → Type 0
 AllFit d rows = (r : Stamped) → In r rows → Fits d r
 
--- full rows that are stamped fit
+-- full rows fit when stamped
 pub stamped_all : (d : TableDef) (m : ℤ) (rows : List Row) → Sound d → AllWide (width d) rows
     → AllFit d (map (stamped d m) rows)
 stamped_all d m rows k h r n =
     let i = in_image (stamped d m) r rows n in subst (Fits d) (sym i.2) (stamped_fits d m i.0 k (h i.0 i.1))
 
--- what replaces a row that fits fits
+-- the rows that replace a row that fits, fit
 pub fate_fits : (d : TableDef) (m : ℤ) (portion : Option Period) (work : Work) (conds : List Cond) → Sound d
     → (r : Stamped) → Fits d r → (new : List Stamped)
     → fate d m portion work conds (shown d r) ≡ Some (Replaced new) → AllFit d new
@@ -205,7 +205,7 @@ fate_fits d m portion work conds k r f new q = touched (is_touched d portion con
         (stamped_all d m (pieces d portion (shown d r) rows) k
         (λ x n. pieces_wide d portion (shown d r) rows (h rows refl) x n ∙ shown_length d r f))
 
--- an INSERT
+-- an INSERT leaves rows that fit
 pub insert_fits : (d : TableDef) (m : ℤ) (rows : List Stamped) (columns : List ℕ) (o : Option (List (List Datum)))
     → Sound d → AllFit d rows → AllFit d (insertion d m rows columns o).rows
 insert_fits d m rows columns None k f r n = f r n
@@ -217,7 +217,7 @@ insert_fits d m rows columns (Some tuples) k f r n = elim
           (filled_length (replicate (width d) Null) columns j.0 ∙ length-replicate (width d) Null))
     ]
 
--- an UPDATE or a DELETE
+-- an UPDATE or a DELETE leaves rows that fit
 pub modify_fits : (d : TableDef) (m : ℤ) (rows : List Stamped) (portion : Option Period) (work : Work)
     (conds : List Cond) → Sound d → AllFit d rows → AllFit d (modify d m rows portion work conds).rows
 modify_fits d m rows portion work conds k f = by_fates
@@ -231,7 +231,7 @@ modify_fits d m rows portion work conds k f = by_fates
       | inr i ↦ fate_fits d m portion work conds k i.row (f i.row i.among) i.new i.replaced r i.there
     ]
 
--- each change leaves rows that fit: the law of widths in runs stands on this
+-- each change leaves rows that fit; used by the law of widths in runs
 pub change_fits : (s : State) (m : ℤ) (copy : Copy) (c : Change) → Sound (table_at s.definitions (changed_table c))
     → AllFit (table_at s.definitions (changed_table c)) (rows_in copy (changed_table c))
     → AllFit (table_at s.definitions (changed_table c)) (outcome s m copy c).rows

@@ -1,5 +1,5 @@
--- What a run answers to a piece of a script: the machine's reply, or that the piece is taken, where it is checked and
--- not run.
+-- The answer to a piece of a script: a reply of the reference model, or `Accepted` for a piece without fault that is
+-- checked and not run.
 use Rattle.tql_spec.specs.Machine.{Reply}
 
 pub data Answer : Type 0 where

@@ -14,18 +14,18 @@ use Rattle.tql_spec.specs.Run.{CopyHolds, Run}
 abbrev pub table_rows : List TableDef → Copy → ℕ → List Row
 table_rows defs copy t = shown_rows (table_at defs t) (rows_in copy t)
 
--- the table at a reference's parent's place, where it is there
+-- the parent table at this index; the empty definition if there is none
 abbrev pub parent_at : List TableDef → Option ℕ → TableDef
 parent_at defs None = no_table
 parent_at defs (Some t) = table_at defs t
 
--- its rows
+-- the rows of the parent table in a copy
 abbrev pub parent_rows : List TableDef → Copy → Option ℕ → List Row
 parent_rows defs copy None = []
 parent_rows defs copy (Some t) = table_rows defs copy t
 
--- a copy has rows for each definition, and each key and each reference of each table holds in it, with a period at
--- every point
+-- a copy has rows for each definition, and each key and each reference of each table holds in it; those with a period
+-- hold at every point
 pub record HoldsAtPoints (defs : List TableDef) (copy : Copy) : Type 0 where
   pub as_many : length copy ≡ length defs
   pub keys : (t : ℕ) → t < length defs → (k : Key) → In k (table_at defs t).keys
@@ -34,20 +34,20 @@ pub record HoldsAtPoints (defs : List TableDef) (copy : Copy) : Type 0 where
       → ReferenceHolds (table_at defs t) (parent_at defs (place_of f.parent defs)) f
       (parent_rows defs copy (place_of f.parent defs)) (table_rows defs copy t)
 
--- every copy of the history and the working copy
+-- this holds for every copy of the history and for the working copy
 abbrev pub HoldAtPoints : State → Type 0
 HoldAtPoints s = (e : Entry) → In e (entries s) → HoldsAtPoints s.definitions e.copy
 
--- the law: the tests of a copy say what holds in it at every point
+-- the law: a copy passes the tests exactly if its keys and references hold at every point
 abbrev pub CopyTestsAreRight : Type 0
 CopyTestsAreRight = (defs : List TableDef) (copy : Copy) → CopyHolds defs copy ↔ HoldsAtPoints defs copy
 
--- the law: a run keeps what holds at every point
+-- the law: a run preserves this
 abbrev pub RunsKeepPoints : Type 0
 RunsKeepPoints =
     (old new : State) (pieces : List Piece) (replies : List Reply) → HoldAtPoints old → Run old pieces replies new
     → HoldAtPoints new
 
--- the law: so it holds in every state that a run reaches
+-- the law: this holds in every state that a run reaches
 abbrev pub ReachedHoldAtPoints : Type 0
 ReachedHoldAtPoints = (s : State) → IsReached s → HoldAtPoints s

@@ -1,4 +1,4 @@
--- What a change does to a table does not depend on the order in which rows are kept or given.
+-- The result of a change does not depend on the order in which rows are stored or given.
 use Rattle.std.specs.Prelude.{◌≡◌, ℕ, Bool, true, false, not, List, ◌++◌, ℤ, Option, Some, None}
 use Rattle.std.specs.List.{filter}
 use Rattle.tql_spec.specs.Words.{map_all}
@@ -12,13 +12,13 @@ use Rattle.tql_spec.specs.Change.{Outcome, Fate, Untouched, Replaced, after_fate
 
 -- ---- the order of rows
 
--- two outcomes that differ in the order of rows alone, and report the same fault
+-- two outcomes that differ only in the order of rows, and report the same fault
 pub record SameOutcome (o p : Outcome) : Type 0 where
   pub rows : SameBag o.rows p.rows
   pub count : o.count ≡ p.count
   pub fault : first o.faults ≡ first p.faults
 
--- the law: a change is the same whatever the order in which the rows are kept
+-- the law: a change has the same outcome whatever the order in which the rows are stored
 abbrev pub ChangesKeepNoOrder : Type 0
 ChangesKeepNoOrder =
     (d : TableDef) (m : ℤ) (rows others : List Stamped) (portion : Option Period) (work : Work) (conds : List Cond)
@@ -26,13 +26,13 @@ ChangesKeepNoOrder =
 
 -- ---- the rows by parts
 
--- whether a row with this fate goes
+-- whether a row with this fate is removed
 abbrev pub goes : Option Fate → Bool
 goes None = false
 goes (Some Untouched) = false
 goes (Some (Replaced new)) = true
 
--- the law: where no fate is out of range, the rows after a change are those that stay and the new ones
+-- the law: if no fate is out of range, the rows after a change are the untouched rows and the new ones
 abbrev pub ChangesByParts : Type 0
 ChangesByParts =
     (d : TableDef) (m : ℤ) (rows : List Stamped) (portion : Option Period) (work : Work) (conds : List Cond)
@@ -43,8 +43,8 @@ ChangesByParts =
 
 -- ---- new rows
 
--- the law: an insertion of the same rows in another order leaves the same bag of rows, and reports the same count and
--- the same fault
+-- the law: inserting the same rows in another order leaves the same bag of rows, and reports the same count and the
+-- same fault
 abbrev pub InsertsKeepNoOrder : Type 0
 InsertsKeepNoOrder =
     (d : TableDef) (m : ℤ) (rows : List Stamped) (columns : List ℕ) (tuples others : List Row) → SameBag tuples others

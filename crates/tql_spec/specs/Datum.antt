@@ -14,7 +14,7 @@ pub data Kind : Type 0 where
   Days : Kind
   Moments : Kind
 
--- a value: a text is its UTF-8 bytes; days and microseconds are counted from 1970
+-- a value: a text is its UTF-8 bytes; days and microseconds are counted from 1970-01-01
 pub data Datum : Type 0 where
   Null : Datum
   Int : ℤ → Datum
@@ -22,7 +22,7 @@ pub data Datum : Type 0 where
   Day : ℤ → Datum
   Moment : ℤ → Datum
 
--- a row, column by column
+-- a row: one value for each column
 abbrev pub Row : Type 0
 Row = List Datum
 
@@ -34,7 +34,7 @@ kind_of (Text t) = Some Texts
 kind_of (Day d) = Some Days
 kind_of (Moment m) = Some Moments
 
--- whether two kinds are one
+-- whether two kinds are equal
 abbrev pub same_kind : Kind → Kind → Bool
 same_kind Ints Ints = true
 same_kind Texts Texts = true
@@ -42,7 +42,7 @@ same_kind Days Days = true
 same_kind Moments Moments = true
 same_kind _ _ = false
 
--- the place of a value's kind, null first
+-- the rank of a value's kind, null first
 abbrev pub rank : Datum → ℕ
 rank Null = 0
 rank (Int n) = 1
@@ -50,7 +50,7 @@ rank (Text t) = 2
 rank (Day d) = 3
 rank (Moment m) = 4
 
--- the order of two values, with null first; values of two kinds never meet, and stand by their kinds
+-- the order of two values, null first; values of different kinds never occur together, and are ordered by kind
 abbrev pub order : Datum → Datum → Ordering
 order Null Null = Equal
 order Null b = Less
@@ -64,7 +64,7 @@ order (Moment a) (Moment b) = int_cmp a b
 order (Moment a) Null = Greater
 order a b = nat_cmp (rank a) (rank b)
 
--- whether two values are one, null like null
+-- whether two values are equal; null equals null
 abbrev pub same : Datum → Datum → Bool
 same Null Null = true
 same (Int a) (Int b) = is_eq (int_cmp a b)
@@ -73,13 +73,13 @@ same (Day a) (Day b) = is_eq (int_cmp a b)
 same (Moment a) (Moment b) = is_eq (int_cmp a b)
 same _ _ = false
 
--- whether two rows are one
+-- whether two rows are equal; null equals null
 abbrev pub same_row : Row → Row → Bool
 same_row [] [] = true
 same_row (a ∷ as') (b ∷ bs) = same a b && same_row as' bs
 same_row _ _ = false
 
--- the comparison signs
+-- the comparison operators
 pub data Comparison : Type 0 where
   Equals : Comparison
   Differs : Comparison
@@ -88,7 +88,7 @@ pub data Comparison : Type 0 where
   Above : Comparison
   AtLeast : Comparison
 
--- which outcomes of an order a sign accepts
+-- whether a comparison is true for an outcome of the order
 abbrev pub accepts : Comparison → Ordering → Bool
 accepts Equals = is_eq
 accepts Differs = is_ne
@@ -97,7 +97,7 @@ accepts AtMost = is_le
 accepts Above = is_gt
 accepts AtLeast = is_ge
 
--- a comparison; with null it is unknown
+-- a comparison in three-valued logic: unknown if either value is null
 abbrev pub compare : Comparison → Datum → Datum → Truth
 compare sign Null b = Unknown
 compare sign (Int a) Null = Unknown
@@ -111,32 +111,32 @@ abbrev pub is_null : Datum → Bool
 is_null Null = true
 is_null _ = false
 
--- whether a whole number lies within 64 bits
+-- whether an integer fits in 64 bits, signed
 abbrev pub fits : ℤ → Bool
 fits n = int_le (neg_ℤ (pos (2 ^ 63))) n && int_lt n (pos (2 ^ 63))
 
--- the exact result, or none outside 64 bits
+-- the integer as a value; None outside 64 bits
 abbrev pub exact : ℤ → Option Datum
 exact n = if fits n then Some (Int n) else None
 
--- the operations of arithmetic
+-- the arithmetic operators
 pub data Operation : Type 0 where
   Plus : Operation
   Minus : Operation
   Times : Operation
 
--- the exact result of an operation
+-- the exact result of an operator
 abbrev pub result_of : Operation → ℤ → ℤ → ℤ
 result_of Plus a b = a +ℤ b
 result_of Minus a b = a -ℤ b
 result_of Times a b = a *ℤ b
 
--- arithmetic: null with null operands, none where the exact result leaves 64 bits
+-- arithmetic: null if an operand is null, None if the exact result is outside 64 bits
 abbrev pub calculate : Operation → Datum → Datum → Option Datum
 calculate op (Int a) (Int b) = exact (result_of op a b)
 calculate op _ _ = Some Null
 
--- how many characters a text has: the bytes that do not continue one
+-- the number of characters of a text: its bytes that are not UTF-8 continuation bytes
 abbrev pub characters : List ℕ → ℕ
 characters [] = 0
 characters (b ∷ bs) = (if nat_le 128 b && nat_lt b 192 then 0 else 1) + characters bs

@@ -15,22 +15,22 @@ pub data Sort : Type 0 where
   QuoteSort : Sort
   SignSort : Symbol → Sort
 
--- what stands behind an opening quote, each doubled quote once; the test tells whether a quote stood just before
+-- the content after an opening quote, each doubled quote once; the flag says that the last byte was a quote
 abbrev pub content_from : ℕ → Bool → List ℕ → List ℕ
 content_from q again [] = []
 content_from q false (b ∷ bs) = if b == q then content_from q true bs else b ∷ content_from q false bs
 content_from q true (b ∷ bs) = b ∷ content_from q false bs
 
--- without a quote at the front
+-- the bytes without a quote at the front
 abbrev pub without_quote : ℕ → List ℕ → List ℕ
 without_quote q [] = []
 without_quote q (b ∷ bs) = if b == q then bs else b ∷ bs
 
--- what stands in quotes
+-- the content of a quoted text
 abbrev pub content : ℕ → List ℕ → List ℕ
 content q text = content_from q false (without_quote q text)
 
--- the token of this sort that is written so
+-- the token of this sort with this text
 abbrev pub token_with : Sort → List ℕ → Token
 token_with WordSort text = Word (map upper text)
 token_with NameSort text = QuotedName (content 34 text)
@@ -38,7 +38,7 @@ token_with NumberSort text = Number text
 token_with QuoteSort text = Quote (content 39 text)
 token_with (SignSort s) text = Sign s
 
--- what begins at a byte
+-- the sort of a first byte
 pub data Start : Type 0 where
   LetterStart : Start
   DigitStart : Start
@@ -50,7 +50,7 @@ pub data Start : Type 0 where
   SymbolStart : Symbol → Start
   NoStart : Start
 
--- the symbols that no other byte goes on
+-- the start of a symbol of one byte that begins no longer symbol
 abbrev pub symbol_start : ℕ → Start
 symbol_start b =
     if b == 40 then SymbolStart Open else (if b == 41 then SymbolStart Close else (if b == 44 then SymbolStart Comma
@@ -65,11 +65,11 @@ start_of b =
     else (if b == 60 then LessStart else
     (if b == 62 then MoreStart else (if b == 45 then MinusStart else symbol_start b))))))
 
--- a sort, and how many bytes the token has
+-- the sort of the first token and its number of bytes, if there is one
 abbrev pub Reading : Type 0
 Reading = Option (Sort × ℕ)
 
--- whether there is a first byte, and it passes
+-- whether there is a first byte that passes the test
 abbrev pub begins : (ℕ → Bool) → List ℕ → Bool
 begins p [] = false
 begins p (b ∷ bs) = p b
@@ -78,7 +78,7 @@ abbrev pub one_more : Option ℕ → Option ℕ
 one_more None = None
 one_more (Some n) = Some (suc n)
 
--- how many bytes stand behind an opening quote up to and with the closing one
+-- the number of bytes after an opening quote, up to and including the closing one; the flag as for `content_from`
 abbrev pub quote_end : ℕ → Bool → List ℕ → Option ℕ
 quote_end q false [] = None
 quote_end q true [] = Some 0
@@ -107,7 +107,7 @@ read_more bs = if begins (λ b. b == 61) bs then Some (SignSort AtLeastSign, 2) 
 abbrev pub read_minus : List ℕ → Reading
 read_minus bs = if begins (λ b. b == 45) bs then None else Some (SignSort MinusSign, 1)
 
--- the token that begins so, and goes on with these bytes
+-- the first token, from the sort of its first byte and the bytes after it
 abbrev pub read_from : Start → List ℕ → Reading
 read_from LetterStart bs = Some (WordSort, suc (prefix_len is_word_byte bs))
 read_from DigitStart bs = read_number (prefix_len is_digit bs) bs
@@ -119,7 +119,7 @@ read_from MinusStart bs = read_minus bs
 read_from (SymbolStart s) bs = Some (SignSort s, 1)
 read_from NoStart bs = None
 
--- the first token, where these bytes begin with one
+-- the first token, if the bytes begin with one
 abbrev pub first_token : List ℕ → Reading
 first_token [] = None
 first_token (b ∷ bs) = read_from (start_of b) bs

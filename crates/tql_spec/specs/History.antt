@@ -1,4 +1,4 @@
--- The copies of the database, newest first, and what a query finds in them.
+-- The copies of the database, newest first, and the versions that a query finds in them.
 use Rattle.std.specs.Prelude.{ℕ, Bool, not, ◌&&◌, List, [], ◌∷◌, ◌++◌, map, filter, slice_index_or, ℤ, pos, ◌+ℤ◌, ◌<ℤ◌}
 use Rattle.std.specs.Prelude.{int_le, int_lt, if◌then◌else◌}
 use Rattle.std.specs.List.{list_any}
@@ -16,26 +16,26 @@ Copy = List (List Stamped)
 abbrev pub rows_in : Copy → ℕ → List Stamped
 rows_in copy t = slice_index_or copy t []
 
--- the copy that a commit made, with its moment
+-- a copy, and the moment of the commit that made it
 pub record Entry : Type 0 where
   pub moment : ℤ
   pub copy : Copy
 
--- the moments fall from the newest copy to the oldest, and lie below a moment
+-- the moments strictly decrease from the newest copy to the oldest, and lie below `until`
 abbrev pub FallingFrom : ℤ → List Entry → Type 0
 FallingFrom until [] = Unit {0}
 FallingFrom until (e ∷ older) = (e.moment <ℤ until) × FallingFrom e.moment older
 
--- the moments fall, and lie below the highest
+-- the moments strictly decrease, and lie below the highest moment
 abbrev pub Falling : List Entry → Type 0
 Falling = FallingFrom high
 
--- what a commit left in one table, with the commit's moment
+-- the rows of one table after a commit, with the commit's moment
 pub record TableEntry : Type 0 where
   pub moment : ℤ
   pub rows : List Stamped
 
--- a table in each copy
+-- one table in each copy
 abbrev pub table_history : ℕ → List Entry → List TableEntry
 table_history t entries = map (λ (e : Entry). record { moment = e.moment; rows = rows_in e.copy t }) entries
 
@@ -45,15 +45,15 @@ table_history t entries = map (λ (e : Entry). record { moment = e.moment; rows 
 abbrev pub has_row : List Stamped → Stamped → Bool
 has_row rows r = list_any (same_stamped r) rows
 
--- where the rows of the newest copy end
+-- the end of a row of the newest copy: the highest moment
 abbrev pub still : Stamped → ℤ
 still r = high
 
--- where the rows of the copy before this one end: at this one's moment where it lacks the row, else where it ends here
+-- the end of a row in the copy before e: e's moment if e lacks the row, else the row's end in e
 abbrev pub ends_before : TableEntry → (Stamped → ℤ) → Stamped → ℤ
 ends_before e ends r = if has_row e.rows r then ends r else e.moment
 
--- a row with the end that it is known to have
+-- the row as a version, with its end
 abbrev pub with_end : (Stamped → ℤ) → Stamped → Version
 with_end ends r = record { row = r; end = ends r }
 
@@ -63,19 +63,19 @@ completed ends rows = map (with_end ends) rows
 
 -- ---- what a query finds in one table
 
--- the rows of the table now: of the newest copy
+-- the current versions: the rows of the newest copy
 abbrev pub current : List TableEntry → List Version
 current [] = []
 current (e ∷ older) = completed still e.rows
 
--- the versions at a moment, of copies of which the newest stands until a moment and its rows end as told
+-- the versions at moment m; the newest of these copies is valid before `until`, and `ends` gives the ends of its rows
 abbrev pub as_of_from : ℤ → (Stamped → ℤ) → ℤ → List TableEntry → List Version
 as_of_from until ends m [] = []
 as_of_from until ends m (e ∷ older) =
     if int_le e.moment m && int_lt m until then completed ends e.rows
     else as_of_from e.moment (ends_before e ends) m older
 
--- the versions at a moment: the rows of the copy that stands then; none stands at the highest moment
+-- the versions at a moment: the rows of the copy valid then; there are none at the highest moment
 abbrev pub as_of : ℤ → List TableEntry → List Version
 as_of m entries = as_of_from high still m entries
 
@@ -87,7 +87,7 @@ meets a b s e = (int_lt a b && int_lt s e) && (int_lt s b && int_lt a e)
 abbrev pub has_version : List Version → Stamped → Bool
 has_version vs r = list_any (λ (v : Version). same_stamped r v.row) vs
 
--- the versions in the copies that the range meets, each as often as in the oldest of them that has it
+-- the versions in the copies that the range meets; each row is as frequent as in the oldest of these that has it
 abbrev pub found_from : ℤ → (Stamped → ℤ) → ℤ → ℤ → List TableEntry → List Version
 found_from until ends a b [] = []
 found_from until ends a b (e ∷ older) =
@@ -95,21 +95,21 @@ found_from until ends a b (e ∷ older) =
     filter (λ v. not (has_version earlier v.row))
     (if meets a b e.moment until then completed ends e.rows else []) ++ earlier
 
--- the versions from a moment to a moment, without the last
+-- the versions from moment a to moment b, excluding b
 abbrev pub from_to : ℤ → ℤ → List TableEntry → List Version
 from_to a b entries = found_from high still a b entries
 
 -- ---- table references
 
--- which versions a table reference asks for
+-- the versions that a table reference asks for
 pub data When : Type 0 where
   Now : When
   AsOf : ℤ → When
   FromTo : ℤ → ℤ → When
   Between : ℤ → ℤ → When
 
--- the versions that a reference finds in a table's copies; FROM .. TO ends before its last moment, and BETWEEN .. AND
--- with it
+-- the versions that a reference finds in a table's copies; FROM .. TO excludes its last moment, and BETWEEN .. AND
+-- includes it
 abbrev pub found : When → List TableEntry → List Version
 found Now entries = current entries
 found (AsOf m) entries = as_of m entries

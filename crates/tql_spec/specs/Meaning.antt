@@ -1,4 +1,4 @@
--- A script means one thing: what a piece says, and what a run replies. tql_syntax_grammar has the proofs, of the whole
+-- A script has one meaning: each piece has one sense, and runs agree. tql_syntax_grammar has the proofs, for the whole
 -- grammar.
 use Rattle.std.specs.Prelude.{◌≡◌, List}
 use Rattle.tql_spec.specs.Bag.{In}
@@ -7,15 +7,15 @@ use Rattle.tql_spec.specs.Machine.{State, Reply, Refused}
 use Rattle.tql_spec.specs.Script.{Piece}
 use Rattle.tql_spec.specs.Run.{Sense, HasSense, Run}
 
--- the law: a piece says one thing, or has one first fault
+-- the law: a piece has at most one sense, a statement or its first fault
 abbrev pub SensesAreOne : Type 0
 SensesAreOne = (p : Piece) (a b : Sense) → HasSense p a → HasSense p b → a ≡ b
 
--- no reply is out of memory
+-- no reply is a refusal for lack of memory
 abbrev pub NoneOutOfMemory : List Reply → Type 0
 NoneOutOfMemory replies = (r : Reply) → In r replies → r ≡ Refused OutOfMemory → ⊥
 
--- the law: two runs from one state over the same pieces, neither out of memory, reply the same and end alike
+-- the law: two runs from one state over the same pieces, neither out of memory, have the same replies and final state
 abbrev pub RunsAgree : Type 0
 RunsAgree = (old new new' : State) (pieces : List Piece) (replies replies' : List Reply)
     → Run old pieces replies new → Run old pieces replies' new' → NoneOutOfMemory replies → NoneOutOfMemory replies'

@@ -1,4 +1,4 @@
--- What holds in every state that a run reaches.
+-- Properties of every state that a run reaches.
 use Rattle.std.specs.Prelude.{◌≡◌, ℕ, ◌+◌, List, length, ℤ, Some}
 use Rattle.tql_spec.specs.Bag.{In}
 use Rattle.tql_spec.specs.Definition.{TableDef, Stamped, table_at}
@@ -10,7 +10,7 @@ use Rattle.tql_spec.specs.Machine.{State, Reply, entries, new_state}
 use Rattle.tql_spec.specs.Script.{Piece}
 use Rattle.tql_spec.specs.Run.{Run}
 
--- some run from the first state ends in the state
+-- the state is reached by a run from the first state
 pub record IsReached (s : State) : Type 0 where
   pub pieces : List Piece
   pub replies : List Reply
@@ -18,8 +18,8 @@ pub record IsReached (s : State) : Type 0 where
 
 -- ---- the order of commits
 
--- the moments fall from the newest copy to the oldest, below the highest and, of those committed, below the clock; an
--- open transaction has the clock's; so do those that readers set aside
+-- the moments decrease from the newest copy to the oldest, below the highest; those of commits are below the clock. An
+-- open transaction has the clock's moment. The moments of pinned copies decrease too
 pub record IsInOrder (s : State) : Type 0 where
   pub falling : Falling (entries s)
   pub below_clock : FallingFrom s.next s.history
@@ -43,7 +43,7 @@ RowsFit s =
 abbrev pub ReachedAreInOrder : Type 0
 ReachedAreInOrder = (s : State) → IsReached s → IsInOrder s
 
--- the law: its copies and their rows fit its definitions
+-- the law: in every state that a run reaches, copies and rows fit the definitions
 abbrev pub ReachedFit : Type 0
 ReachedFit = (s : State) → IsReached s → CopiesFit s × RowsFit s
 
@@ -53,11 +53,11 @@ ReachedFit = (s : State) → IsReached s → CopiesFit s × RowsFit s
 abbrev pub ReachedAreSteady : Type 0
 ReachedAreSteady = (s : State) → IsReached s → (t : ℕ) → IsSteady t (entries s)
 
--- each query of a table finds what the spans of the copies say, and of a range any copy met will do
+-- queries of the table read the copies by their spans; for a range, any copy met that has a row will do
 pub record ReadsInReached (s : State) (t : ℕ) : Type 0 where
   pub by_spans : QuestionsBySpans t (entries s)
   pub any_copy : (a b : ℤ) → AnyCopyMetWill t a b (entries s)
 
--- the law: so it is in every state that a run reaches
+-- the law: in every state that a run reaches, queries of each table read it in this way
 abbrev pub ReachedReadBySpans : Type 0
 ReachedReadBySpans = (s : State) → IsReached s → (t : ℕ) → ReadsInReached s t

@@ -1,5 +1,5 @@
--- The laws of pinned readers: a READ answers what the machine stopped at the reader's opening would answer, whatever
--- the writer has done since; and the copies that a reader set aside are those of the history up to its pin.
+-- The laws of pinned readers. A READ that counts replies as the reference model stopped at the reader's opening would,
+-- whatever the writer has done since. The copies that a reader pinned answer as the history up to its pin does.
 use Rattle.std.specs.Prelude.{◌≡◌, ℕ, false, List, [], ◌∷◌, ℤ, int_le, if◌then◌else◌, Option, Some, None}
 use Rattle.tql_spec.specs.Bag.{In}
 use Rattle.tql_spec.specs.Refusal.{BeforeTheHorizon, ReaderNotUsable, OutOfMemory}
@@ -15,16 +15,16 @@ use Rattle.tql_spec.specs.Reached.{IsReached}
 
 -- ---- every READ of a reader
 
--- the machine stopped: an open transaction rolled back
+-- the reference model stopped: an open transaction is rolled back
 abbrev pub stopped : State → State
 stopped s = record s { transaction = None }
 
--- no piece closes the reader: one that says so was out of memory
+-- no piece closes the reader: a CLOSE READER of it was refused for lack of memory
 abbrev pub ClosesNever : Name → List Piece → List Reply → Type 0
 ClosesNever n (p ∷ ps) (r ∷ rs) = (HasSense p (Says (CloseTree n)) → r ≡ Refused OutOfMemory) × ClosesNever n ps rs
 ClosesNever n _ _ = Unit {0}
 
--- a reader of this name is opened in one state, and a run that does not close it has led from there to another
+-- a reader of this name was opened in state s, and a run that does not close it led from there to state `now`
 pub record IsOpenSince (s now : State) (n : Name) : Type 0 where
   pub opened : (respond s (OpenTree n)).0 ≡ Done OpenedReader None
   pub pieces : List Piece
@@ -32,18 +32,19 @@ pub record IsOpenSince (s now : State) (n : Name) : Type 0 where
   pub run : Run (respond s (OpenTree n)).1 pieces replies now
   pub stays : ClosesNever n pieces replies
 
--- neither the horizon nor the reader is why it is refused
+-- the reply is not a refusal for the horizon or for the reader
 abbrev pub Counts : Reply → Type 0
 Counts r = (r ≡ Refused BeforeTheHorizon → ⊥) × (r ≡ Refused ReaderNotUsable → ⊥)
 
--- the law: each such READ replies as the machine stopped at the opening would to the query, row ends included
+-- the law: each READ that counts replies as the query would in the reference model stopped at the opening, row ends
+-- included
 abbrev pub ReadersAreStable : Type 0
 ReadersAreStable = (s now : State) (n : Name) → IsOpenSince s now n → (q : SelectTree) (keys : List OrderTree)
     → Counts (respond now (ReadTree n q keys)).0
     → (respond now (ReadTree n q keys)).0 ≡ (respond (stopped s) (QueryTree q keys)).0
 
--- the law: where two runs agree, replies included, up to the opening, a READ that both ask has the same reply in both,
--- whatever is done, undone or pruned between
+-- the law: if two runs agree up to the opening, replies included, a READ of both has the same reply in both. What is
+-- done, undone or pruned in between does not matter
 abbrev pub ReadsAgree : Type 0
 ReadsAgree = (old s s' now now' : State) (n : Name) (before : List Piece) (replies : List Reply)
     → Run old before replies s → Run old before replies s' → IsOpenSince s now n → IsOpenSince s' now' n
@@ -53,7 +54,7 @@ ReadsAgree = (old s s' now now' : State) (n : Name) (before : List Piece) (repli
 
 -- ---- one history for all readers
 
--- the pin: the moment of the newest copy that was set aside
+-- the pin: the moment of the newest pinned copy
 abbrev pub pin : List Entry → Option ℤ
 pin [] = None
 pin (e ∷ older) = Some e.moment
@@ -68,12 +69,12 @@ abbrev pub until_pin : Option ℤ → List Entry → List Entry
 until_pin None entries = []
 until_pin (Some p) entries = not_after p entries
 
--- the pin is a commit that the history still has, and the copies up to it answer what those set aside do
+-- the pin is a commit that the history still has, and the copies up to it answer as the pinned copies do
 pub record ReadsTheHistory (s : State) (r : Reader) : Type 0 where
   pub kept : (p : ℤ) → pin r.pinned ≡ Some p → (e : Entry) × In e s.history × (e.moment ≡ p)
   pub questions : (t : ℕ) (w : When) → is_before s.horizon w ≡ false
       → found w (table_history t (until_pin (pin r.pinned) s.history)) ≡ found w (table_history t r.pinned)
 
--- the law: in every state that a run reaches, of every reader, for each reference that does not ask before the horizon
+-- the law: in every state that a run reaches, every reader reads the history
 abbrev pub ReadersReadTheHistory : Type 0
 ReadersReadTheHistory = (s : State) → IsReached s → (r : Reader) → In r s.readers → ReadsTheHistory s r

@@ -47,11 +47,11 @@ symbol_text AtMostSign = codes "<="
 symbol_text MoreSign = codes ">"
 symbol_text AtLeastSign = codes ">="
 
--- an ASCII letter or `_`
+-- whether a byte is an ASCII letter or `_`
 abbrev pub is_letter : ℕ → Bool
 is_letter b = (nat_le 65 b && nat_le b 90) || (nat_le 97 b && nat_le b 122) || (b == 95)
 
--- a letter, `_` or a digit
+-- whether a byte is a letter, `_` or a digit
 abbrev pub is_word_byte : ℕ → Bool
 is_word_byte b = is_letter b || is_digit b
 
@@ -59,12 +59,12 @@ is_word_byte b = is_letter b || is_digit b
 abbrev pub upper : ℕ → ℕ
 upper b = if nat_le 97 b && nat_le b 122 then b - 32 else b
 
--- a letter or `_`, and then letters, digits and `_`
+-- whether the bytes are a letter or `_`, followed by letters, digits and `_`
 abbrev pub is_word : List ℕ → Bool
 is_word [] = false
 is_word (b ∷ bs) = is_letter b && list_all is_word_byte bs
 
--- one digit or more
+-- whether the bytes are one or more digits
 abbrev pub is_number : List ℕ → Bool
 is_number [] = false
 is_number (b ∷ bs) = list_all is_digit (b ∷ bs)
@@ -77,7 +77,7 @@ Spells (Number ds) bytes = IsTrue (is_number bytes) × (ds ≡ bytes)
 Spells (Quote t) bytes = bytes ≡ 39 ∷ doubled 39 t ++ 39 ∷ []
 Spells (Sign s) bytes = bytes ≡ symbol_text s
 
--- which next byte would lengthen a token, or make a number or a minus no token
+-- whether the next byte would lengthen a token, or make a number or a minus sign invalid
 abbrev pub lengthens : Token → ℕ → Bool
 lengthens (Word w) b = is_word_byte b
 lengthens (QuotedName n) b = b == 34
@@ -93,7 +93,7 @@ abbrev pub IsLongest : Token → List ℕ → Type 0
 IsLongest t [] = ⊤
 IsLongest t (b ∷ bs) = IsFalse (lengthens t b)
 
--- no line feed
+-- the bytes have no line feed
 abbrev pub IsOneLine : List ℕ → Type 0
 IsOneLine bs = IsTrue (list_all (λ b. not (b == 10)) bs)
 
@@ -104,18 +104,18 @@ pub data IsGap : List ℕ → Type 0 where
   comment : (words : List ℕ) {bs gap : List ℕ} → IsOneLine words → IsGap bs → gap ≡ 45 ∷ 45 ∷ words ++ 10 ∷ bs
       → IsGap gap
 
--- blanks and comments up to the end, the last comment perhaps without a line feed
+-- blanks and comments up to the end; the last comment may lack its line feed
 abbrev pub IsEnd : List ℕ → Type 0
 IsEnd bytes = IsGap bytes ⊎ ((gap words : List ℕ) × IsGap gap × IsOneLine words × (bytes ≡ gap ++ 45 ∷ 45 ∷ words))
 
--- the bytes are these tokens, parted by blanks and comments, each as long as it can be
+-- the bytes are these tokens, separated by blanks and comments; each token is as long as it can be
 abbrev pub AreTokens : List Token → List ℕ → Type 0
 AreTokens [] bytes = IsEnd bytes
 AreTokens (t ∷ ts) bytes =
     (gap text rest : List ℕ) ×
     (bytes ≡ gap ++ text ++ rest) × IsGap gap × Spells t text × IsLongest t rest × AreTokens ts rest
 
--- the most parentheses that are open at once, where so many are
+-- the most parentheses open at once, if n are open at the start
 abbrev pub depth_from : ℕ → List Token → ℕ
 depth_from n [] = n
 depth_from n (Sign Open ∷ ts) = max n (depth_from (suc n) ts)
@@ -126,7 +126,7 @@ depth_from n (t ∷ ts) = depth_from n ts
 abbrev pub depth : List Token → ℕ
 depth = depth_from 0
 
--- the words that are never names
+-- the reserved words, which are never names
 abbrev pub reserved : List (List ℕ)
 reserved =
     codes "ALL" ∷ codes "AND" ∷ codes "AS" ∷ codes "BETWEEN" ∷ codes "BIGINT" ∷ codes "BY" ∷ codes "CHECK" ∷ codes
@@ -146,6 +146,6 @@ reserved =
 abbrev pub is_reserved : List ℕ → Bool
 is_reserved w = list_any (same_text w) reserved
 
--- a text is spelled by one list of tokens at most
+-- the law: a text has at most one list of tokens
 abbrev pub HasOneTokenList : Type 0
 HasOneTokenList = (text : List ℕ) (ts us : List Token) → AreTokens ts text → AreTokens us text → ts ≡ us

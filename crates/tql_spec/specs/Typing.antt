@@ -12,22 +12,22 @@ use Rattle.tql_spec.specs.Reached.{CopiesFit}
 
 -- ---- values and rows
 
--- where a value of the first kind is wanted, one of the second will do, or null, which has none
+-- a value of the second kind is allowed where the first is expected; null, which has no kind, is always allowed
 abbrev pub Takes : Option Kind → Option Kind → Type 0
 Takes k None = Unit {0}
 Takes k (Some l) = Some l ≡ k
 
--- a value of the kind, or null; null alone where the kind is not known
+-- a value of the kind, or null; only null if the kind is not known
 abbrev pub IsOfKind : Option Kind → Datum → Type 0
 IsOfKind k v = Takes k (kind_of v)
 
--- a row of values of these kinds, as many
+-- a row of values of these kinds, one for each
 abbrev pub AreOfKinds : List Kind → Row → Type 0
 AreOfKinds [] [] = Unit {0}
 AreOfKinds (k ∷ ks) (v ∷ vs) = IsOfKind (Some k) v × AreOfKinds ks vs
 AreOfKinds _ _ = ⊥
 
--- expressions that, evaluated on no row, give values of these kinds, as many
+-- expressions whose values, evaluated on no row, are of these kinds, one for each
 abbrev pub GiveKinds : List Kind → List Expr → Type 0
 GiveKinds [] [] = Unit {0}
 GiveKinds (k ∷ ks) (e ∷ es) = ((v : Datum) → eval [] [] e ≡ Some v → IsOfKind (Some k) v) × GiveKinds ks es
@@ -35,17 +35,17 @@ GiveKinds _ _ = ⊥
 
 -- ---- definitions
 
--- the kind of the column with this number
+-- the kind of the column at this index
 abbrev pub column_kind : TableDef → ℕ → Kind
 column_kind d i = slice_index_or (kinds_of d) i Ints
 
--- whether the column with this number takes no null
+-- whether the column at this index allows no null
 abbrev pub is_required : List Column → ℕ → Bool
 is_required [] i = false
 is_required (c ∷ cs) zero = c.required
 is_required (c ∷ cs) (suc i) = is_required cs i
 
--- generated columns: two of the table's, of moments
+-- generated columns: two different columns of the table, both of moments
 pub record IsSystemOf (d : TableDef) (s : System) : Type 0 where
   pub start_there : s.start < length d.columns
   pub end_there : s.end < length d.columns
@@ -53,18 +53,18 @@ pub record IsSystemOf (d : TableDef) (s : System) : Type 0 where
   pub start_kind : column_kind d s.start ≡ Moments
   pub end_kind : column_kind d s.end ≡ Moments
 
--- an application period: its columns are of one kind of points, and take no null
+-- an application period: its columns are of one kind of points, and allow no null
 pub record IsApplicationOf (d : TableDef) (a : Application) : Type 0 where
   pub kinds : IsTrue (are_ends (column_kind d a.start) (column_kind d a.end))
   pub start_required : IsTrue (is_required d.columns a.start)
   pub end_required : IsTrue (is_required d.columns a.end)
 
--- a definition with such periods, where it has them
+-- a definition whose periods, if any, have these properties
 pub record IsTypedDefinition (d : TableDef) : Type 0 where
   pub system : (s : System) → d.system ≡ Some s → IsSystemOf d s
   pub application : (a : Application) → d.application ≡ Some a → IsApplicationOf d a
 
--- each definition is so
+-- each definition has them
 abbrev pub AreTypedDefinitions : List TableDef → Type 0
 AreTypedDefinitions defs = (t : ℕ) → IsTypedDefinition (table_at defs t)
 
@@ -74,19 +74,19 @@ AreTypedDefinitions defs = (t : ℕ) → IsTypedDefinition (table_at defs t)
 abbrev pub IsTyped : TableDef → Stamped → Type 0
 IsTyped d r = AreOfKinds (kinds_of d) (shown d r)
 
--- so has each row of each copy, the working one too
+-- each row of each copy is typed, also in the working copy
 abbrev pub RowsAreTyped : State → Type 0
 RowsAreTyped s =
     (e : Entry) → In e (entries s) → (t : ℕ) (r : Stamped) → In r (rows_in e.copy t)
     → IsTyped (table_at s.definitions t) r
 
--- no null stands in the columns of a row's application period
+-- the columns of a row's application period are not null
 abbrev pub HasPeriod : TableDef → Row → Type 0
 HasPeriod d row =
     (a : Application) → d.application ≡ Some a
     → (is_null (cell row a.start) ≡ false) × (is_null (cell row a.end) ≡ false)
 
--- none does in any row of any copy
+-- this holds for each row of each copy, also in the working copy
 abbrev pub RowsHavePeriods : State → Type 0
 RowsHavePeriods s =
     (e : Entry) → In e (entries s) → (t : ℕ) (r : Stamped) → In r (rows_in e.copy t)

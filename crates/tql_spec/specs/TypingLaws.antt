@@ -1,4 +1,4 @@
--- The laws of kinds: bound statements give each column values of its kind, and states that runs reach have such rows.
+-- The laws of kinds: bound statements give each column values of its kind, and rows of reached states have them.
 use Rattle.std.specs.Prelude.{◌≡◌, ◌<◌, ℕ, ◌+◌, length, List, [], false, IsTrue, Option, Some, is_some}
 use Rattle.tql_spec.specs.Bag.{In}
 use Rattle.tql_spec.specs.Datum.{Datum, Row, Day, Moment, Days, Moments}
@@ -22,12 +22,12 @@ use Rattle.tql_spec.specs.Typing.{IsTypedState}
 
 -- ---- expressions
 
--- a row has values of their kinds in the columns of each reference in scope
+-- the row has values of the right kinds in the columns of each reference in scope
 abbrev pub HasScopeKinds : List Known → Row → Type 0
 HasScopeKinds scope row = (k : Known) → In k scope → (i : ℕ) → i < length k.columns
     → IsOfKind (Some (kind_at k.columns i)) (cell row (k.offset + i))
 
--- the law: on such a row, in a group of such rows, the value of a bound expression is of its kind
+-- the law: if the row and its group are like this, the value of a bound expression is of its kind
 abbrev pub ValuesAreOfKind : Type 0
 ValuesAreOfKind = (scope : List Known) (e : Sum) (group : List Row) (row : Row)
     → ((r : Row) → In r group → HasScopeKinds scope r) → HasScopeKinds scope row
@@ -35,19 +35,19 @@ ValuesAreOfKind = (scope : List Known) (e : Sum) (group : List Row) (row : Row)
 
 -- ---- bound statements
 
--- an assignment: its value on a row of the table is of its column's kind, and a change of a portion sets no column of
--- the period
+-- an assignment: its value on a row of the table is of its column's kind. A change of a portion sets no column of the
+-- period
 pub record IsTypedAssignment (d : TableDef) (portion : Option Period) (a : Assignment) : Type 0 where
   pub value : (row : Row) → AreOfKinds (kinds_of d) row → (v : Datum) → eval [] row a.value ≡ Some v
       → IsOfKind (Some (column_kind d a.column)) v
   pub column : IsTrue (is_some portion) → has_number a.column (period_columns d.application) ≡ false
 
--- the assignments of an UPDATE
+-- the assignments of an UPDATE are typed
 abbrev pub IsTypedWork : TableDef → Option Period → Work → Type 0
 IsTypedWork d portion Work.Remove = Unit {0}
 IsTypedWork d portion (Work.Set sets) = (a : Assignment) → In a sets → IsTypedAssignment d portion a
 
--- each reference has rows of its table's kinds
+-- the rows of each reference are of its table's kinds
 abbrev pub IsTypedBag : List TableDef → (Ref → List Row) → Type 0
 IsTypedBag defs bag = (r : Ref) (row : Row) → In row (bag r) → AreOfKinds (kinds_of (table_at defs r.table)) row
 
@@ -60,7 +60,7 @@ IsTypedChange defs (InsertQuery t columns q) =
     → (row : Row) → In row rows → AreOfKinds (kinds_for (table_at defs t) columns) row
 IsTypedChange defs (Modify t portion work conds) = IsTypedWork (table_at defs t) portion work
 
--- a bound statement of which this holds, or that defines a table with such periods
+-- a bound statement whose change or table definition is typed
 abbrev pub IsTypedBound : List TableDef → Bound → Type 0
 IsTypedBound defs (CreateTable d) = IsTypedDefinition d
 IsTypedBound defs (DropTable t) = Unit {0}
@@ -77,18 +77,18 @@ IsTypedBound defs (CloseReader n) = Unit {0}
 
 -- ---- laws
 
--- the law: a statement without a fault is bound to such a one
+-- the law: the binding of a statement without faults is typed
 abbrev pub BoundAreTyped : Type 0
 BoundAreTyped =
     (defs : List TableDef) (st : Statement) → (bind defs st).faults ≡ [] → IsTypedBound defs (bind defs st).value
 
--- the law: a step keeps the kinds, and so does an effect that the state does not refuse
+-- the law: a step preserves the kinds, and so does an effect that the state does not refuse
 pub record StepsKeepTypes : Type 0 where
   pub steps : (s : State) (b : Bound) → IsTypedState s → IsTypedBound s.definitions b → IsTypedState (step s b).1
   pub effects : (s : State) (b : Bound) → state_faults s (class_of b) ≡ [] → IsTypedState s
       → IsTypedBound s.definitions b → IsTypedState (effect s b).1
 
--- the law: what a query of a table finds in such a state, also of the past, are rows of its kinds
+-- the law: in a typed state, the rows that a query of a table finds are of its kinds, also those of the past
 abbrev pub BagsAreTyped : Type 0
 BagsAreTyped = (s : State) → IsTypedState s → IsTypedBag s.definitions (bag_of s)
 
@@ -96,7 +96,7 @@ BagsAreTyped = (s : State) → IsTypedState s → IsTypedBag s.definitions (bag_
 abbrev pub ReachedAreTyped : Type 0
 ReachedAreTyped = (s : State) → IsReached s → IsTypedState s
 
--- the law: in a row of the table's kinds, without null there, the columns of the application period have its points
+-- the law: in a row of the table's kinds with a period, the columns of the application period hold its ends
 pub record OwnPeriodsArePoints : Type 0 where
   pub days : (d : TableDef) (a : Application) (row : Row) → d.application ≡ Some a → AreOfKinds (kinds_of d) row
       → HasPeriod d row

@@ -21,7 +21,7 @@ ghost use Rattle.tql_spec.specs.TypingLaws.{ValuesAreOfKind, BoundAreTyped, Bags
 ghost use Rattle.tql_spec.specs.TypingLaws.{ReachedAreTyped, OwnPeriodsArePoints};
 ghost use Rattle.tql_spec.specs.AtPoints.{CopyTestsAreRight, RunsKeepPoints, ReachedHoldAtPoints};
 
-/// Each part of a period holds the points that it is named for.
+/// The parts of a period before, inside and after a portion hold exactly the points that their names say.
 pub fn parts_of_a_period()
     ensures { (x portion : Period) → PartsAreSets x portion }
 {}
@@ -31,12 +31,12 @@ pub fn refused_statements()
     ensures { RefusalsKeepState }
 {}
 
-/// A key's test says what holds at each point.
+/// The key test decides whether a key holds; with WITHOUT OVERLAPS, whether it holds at each point.
 pub fn keys_at_each_point()
     ensures { KeyTestIsRight }
 {}
 
-/// For rising periods each predicate says what it says of their points.
+/// For periods with start < end, each predicate is true exactly when it holds of their sets of points.
 pub fn predicates_on_points()
     ensures days { FormulasAreSets Day }
     ensures moments { FormulasAreSets Moment }
@@ -44,57 +44,58 @@ pub fn predicates_on_points()
     ensures moment { PointFormulaIsSet Moment }
 {}
 
-/// A condition in which nothing is calculated has a truth on every row.
+/// A condition over literals and columns alone has a truth value on every row.
 pub fn safe_conditions()
     ensures { SafeConditionsAreJudged }
 {}
 
-/// A reference's test says what holds at each point.
+/// The reference test decides whether a reference holds; with PERIOD, at each point of the child's period.
 pub fn references_at_each_point()
     ensures { ReferenceTestIsRight }
 {}
 
-/// The statements of a script in their places are its statements, and each stands there.
+/// The placed statements of a script are its statements, and the text of each is at its place in the script.
 pub fn statements_in_place()
     ensures { (script : List ℕ) → StatementsInPlace script }
 {}
 
-/// A text has one list of tokens, if any.
+/// A text has at most one list of tokens.
 pub fn one_token_list()
     ensures { HasOneTokenList }
 {}
 
-/// Over copies whose moments fall, AS OF reads the copy whose span holds the moment, a range the copies that it
-/// meets, and a row ends where it is first lacked.
+/// For copies with decreasing moments: AS OF reads the copy whose span holds the moment. A range reads the copies whose
+/// spans it meets. A row ends at the first later copy without it.
 pub fn questions_by_spans()
     ensures { ReadsBySpans }
 {}
 
-/// Where rows are steady, any copy that a range meets tells how often a row is found, and where it ends.
+/// Where rows are steady, any copy that a range meets and that has a row determines its multiplicity and its end.
 pub fn ranges_by_any_copy()
     ensures { SteadyRangesAgree }
 {}
 
-/// In every state that a run reaches the moments of commits fall below the clock, and each copy fits the definitions.
+/// In every state that a run reaches, the moments of commits decrease, newest first, and lie below the clock. Each copy
+/// and each of its rows fits the definitions.
 pub fn commits_in_order()
     ensures in_order { ReachedAreInOrder }
     ensures fit { ReachedFit }
 {}
 
-/// In every state that a run reaches a row has one multiplicity in all copies that have it, and one that is gone does
-/// not come back.
+/// In every state that a run reaches, a row has one multiplicity in all copies that have it. A row that was removed
+/// does not come back.
 pub fn steady_rows()
     ensures { ReachedAreSteady }
 {}
 
-/// In every state that a run reaches queries find what the spans of the copies say.
+/// In every state that a run reaches, queries read the copies by their spans.
 pub fn questions_in_runs()
     ensures { ReachedReadBySpans }
 {}
 
-/// The copies that a horizon leaves answer each query that does not ask before it as all of them do; what is before it
-/// is told by literals that read as moments, and each horizon that a run reaches is a moment of the calendar. A run
-/// without the statements that pruned, or were refused for the horizon, answers all others the same.
+/// Pruning does not change the answer of a query that does not ask before the horizon. Only a literal that reads as a
+/// moment can ask before it. In every reached state the horizon is a moment of the calendar. A run without the
+/// statements that pruned, or were refused for the horizon, gives the other statements the same replies.
 pub fn pruned_history()
     ensures tables { PrunedAnswersStay }
     ensures literals { OnlyMomentsAreBefore }
@@ -102,16 +103,16 @@ pub fn pruned_history()
     ensures runs { PrunesAreUnseen }
 {}
 
-/// Each READ replies as the machine stopped at the reader's opening would, and so two runs that agree up to the opening
-/// read the same, where a token list spells one statement at most. The copies that a reader set aside answer as those
-/// of the history up to its pin.
+/// Each READ that is refused neither for the horizon nor for the reader replies as the reference model stopped at the
+/// reader's opening would. Two runs that agree up to the opening read the same, where a token list spells at most one
+/// statement. The copies that a reader pinned answer as the history up to its pin does.
 pub fn pinned_readers()
     ensures stable { ReadersAreStable }
     ensures agree { SpellsOnce → ReadsAgree }
     ensures history { ReadersReadTheHistory }
 {}
 
-/// A run keeps keys and references in every copy: by their tests, and at every point.
+/// A run preserves keys and references in every copy, both by their tests and at every point.
 pub fn constraints_in_runs()
     ensures tests { RunsKeepConstraints }
     ensures right { CopyTestsAreRight }
@@ -119,52 +120,52 @@ pub fn constraints_in_runs()
     ensures reached { ReachedHoldAtPoints }
 {}
 
-/// An UPDATE or a DELETE does the same whatever the order in which the rows are kept: the same bag of rows, the same
-/// count and the same fault.
+/// An UPDATE or a DELETE does not depend on the order in which the rows are stored. It gives the same bag of rows, the
+/// same count and the same fault.
 pub fn changes_keep_no_order()
     ensures { ChangesKeepNoOrder }
 {}
 
-/// An INSERT does the same whatever the order of the rows that it is given: the same bag of rows, the same count and
-/// the same fault.
+/// An INSERT does not depend on the order of the rows that it is given. It gives the same bag of rows, the same count
+/// and the same fault.
 pub fn inserts_keep_no_order()
     ensures { InsertsKeepNoOrder }
 {}
 
-/// Where nothing that an UPDATE or a DELETE evaluates is out of range, the rows after it are those that it leaves and
-/// the new ones.
+/// Where nothing that an UPDATE or a DELETE evaluates is out of range, the rows after it are the untouched rows and the
+/// new rows.
 pub fn changes_by_parts()
     ensures { ChangesByParts }
 {}
 
-/// What passes conjuncts, and what a join gives, is the same bag, or out of range as well, whatever the order in
-/// which the rows of either side are kept.
+/// The rows that pass conjuncts, and the rows of a join, do not depend on the order in which the rows of either side
+/// are stored. The two results are the same bag, or both are out of range.
 pub fn joins_keep_no_order()
     ensures { JoinsKeepNoOrder }
 {}
 
-/// Rows without their repeats are the same bag whatever the order in which the rows are kept, and for any keys a bag
-/// has one list in order, since rows that tie are equal.
+/// Removing repeated rows gives the same bag whatever the order in which the rows are stored. For any keys a bag has
+/// exactly one list in order, since rows that tie are equal.
 pub fn order_is_one()
     ensures distinct { DistinctKeepsNoOrder }
     ensures order { OrderIsOne }
 {}
 
-/// What a grouped query shows depends on the bag of its rows alone: the same bag of rows, or out of range as well,
-/// whatever the order in which the rows of its groups are kept.
+/// The output of a grouped query depends only on the bag of its rows, not on the order within its groups. The two
+/// results are the same bag, or both are out of range.
 pub fn groups_keep_no_order()
     ensures { GroupsKeepNoOrder }
 {}
 
-/// What a query answers depends on the bags of its references alone: the same bag of rows, or out of range as well.
+/// The answer of a query depends only on the bags of its references: the same bag of rows, or out of range for both.
 pub fn answers_keep_no_order()
     ensures { AnswersKeepNoOrder }
 {}
 
-/// Values are of their columns' kinds, or null. The value of a bound expression is of its kind, a statement without a
-/// fault is bound to one that gives each column values of its kind, and steps keep this; so it is in every state that
-/// a run reaches. There queries find rows of these kinds too, and the ends of a row's application period are its
-/// points, as dates or as timestamps.
+/// Each value is of its column's kind, or null. The value of a bound expression is of its kind. A statement without
+/// faults gives each column values of its kind. Steps preserve this, so it holds in every state that a run reaches.
+/// There queries find rows of these kinds too. The columns of a row's application period hold its ends, as dates or as
+/// timestamps.
 pub fn kinds_are_kept()
     ensures expressions { ValuesAreOfKind }
     ensures bound { BoundAreTyped }

@@ -1,4 +1,4 @@
--- A change in a transaction, and its undoing.
+-- A change in a transaction, and undoing it.
 use Rattle.std.proofs.Common.{◌≡◌, ℕ, ◌+◌, Bool, true, false, cond, List, [], ◌∷◌, ◌++◌, map, filter, refl, sym, ap}
 use Rattle.std.proofs.Common.{subst, ◌∙◌, arith, inl, inr}
 use Rattle.std.specs.Prelude.{◌⊎◌, not, ◌&&◌, ℤ, ◌≤ℤ◌, ◌<ℤ◌, int_le, int_lt, if◌then◌else◌, Option}
@@ -43,9 +43,9 @@ in-filter {X} p x (y ∷ ys) h = elim (p y) as (λ b. p y ≡ b → In x (cond b
       | false ↦ λ e k. let l = in-filter p x ys k in (inr (l.0), l.1)
     ] refl h
 
--- ---- what becomes of a row
+-- ---- what happens to a row
 
--- rows in an open transaction of the moment m, in which those that are gone are taken away
+-- rows in an open transaction of the moment `m`, which removes the rows that `gone` selects
 pub record Turn : Type 0 where
   pub m : ℤ
   pub gone : Stamped → Bool
@@ -56,11 +56,11 @@ pub record Turn : Type 0 where
   pub starts : (r : Stamped) → In r rows → r.start ≤ℤ m
   pub stops : (r : Stamped) → In r rows → (ends r ≤ℤ m) ⊎ (ends r ≡ high)
 
--- a current row goes
+-- a current row is removed
 abbrev pub goes : Turn → Stamped → Bool
 goes x r = int_eq (x.ends r) high && x.gone r
 
--- a row of this very moment goes
+-- a row that began at this very moment is removed
 abbrev pub dead : Turn → Stamped → Bool
 dead x r = int_eq r.start x.m && goes x r
 
@@ -127,7 +127,7 @@ fate x r within = by_bool (goes x r) leaves stays
       ];
     }))
 
--- a member of the rows after
+-- a member of the rows after the change
 pub member : (x : Turn) (added : List (List Datum)) (r : Stamped) → In r (rows_told x added)
     → (In r x.rows × Closes x r) ⊎ ((In r x.rows × Stays x r) ⊎ ((r.start ≡ x.m) × (ends_after x r ≡ high)))
 member x added r h = elim (in-append r (filter (λ r. not (dead x r)) x.rows) (map (starting x.m) added) h) [
@@ -146,7 +146,7 @@ member x added r h = elim (in-append r (filter (λ r. not (dead x r)) x.rows) (m
     new r e = ap (λ (b : Bool). if b then high else (if goes x r then x.m else x.ends r))
         ((Decides-int_eq r.start x.m).1 e)
 
--- ---- sums over the rows after
+-- ---- sums over the rows after the change
 
 pub lt_true : {a b : ℤ} → a <ℤ b → int_lt a b ≡ true
 lt_true {a} {b} h = elim (lt_tells a b) [ inl s ↦ s.0 | inr s ↦ absurd (omega (arith, ints)) ]
@@ -166,7 +166,7 @@ pub sum-told : (x : Turn) (added : List (List Datum)) (w : Stamped → ℕ)
 sum-told x added w = sum_by-append w (filter (λ r. not (dead x r)) x.rows) (map (starting x.m) added)
     ∙ plus (sum-filter (λ r. not (dead x r)) w x.rows) (sum-map (starting x.m) w added)
 
--- the versions after are the rows after with their ends
+-- the versions after the change are the rows after it, completed by their ends
 pub replaced-is : (x : Turn) (added : List (List Datum))
     → SameBag (replaced x.m x.gone added (completed x.ends x.rows)) (completed (ends_after x) (rows_told x added))
 replaced-is x added = record {
@@ -214,13 +214,13 @@ replaced-is x added = record {
       ]
     ]
 
--- ---- the copies before
+-- ---- earlier copies
 
 pub stand_bits : (ends : Stamped → ℤ) (p : ℤ) (r : Stamped) (n : ℤ) → ends r ≡ n
     → stands_at ends p r ≡ (int_le r.start p && int_lt p n)
 stand_bits ends p r n e = ap (λ (k : ℤ). int_le r.start p && int_lt p k) e
 
--- before the moment of the change the same rows stand
+-- at moments before the change, the same rows exist
 pub stand_before : (x : Turn) (added : List (List Datum)) (p : ℤ) → p <ℤ x.m
     → SameBag (filter (stands_at x.ends p) x.rows) (filter (stands_at (ends_after x) p) (rows_told x added))
 stand_before x added p before = record {
@@ -265,7 +265,7 @@ stand_before x added p before = record {
       ]
     ]
 
--- a span before the change stays one with nothing in it
+-- if no row began or ended in a span before the change, none does after it
 pub record Quiet (rows : List Stamped) (ends : Stamped → ℤ) (from until : ℤ) : Type 0 where
   pub starts : (r : Stamped) → In r rows → Outside from until r.start
   pub stops : (r : Stamped) → In r rows → Outside from until (ends r)

@@ -1,4 +1,4 @@
--- Readings of versions that stand for the copies, and the beginning of a transaction.
+-- Readings of versions that represent the copies, and the beginning of a transaction.
 use Rattle.std.proofs.Common.{◌≡◌, ℕ, Bool, true, false, cond, List, [], ◌∷◌, filter, refl, sym, ap, ◌∙◌, arith, inl}
 use Rattle.std.proofs.Common.{inr}
 use Rattle.std.specs.Prelude.{◌⊎◌, ◌&&◌, ℤ, ◌≤ℤ◌, ◌<ℤ◌, int_lt, if◌then◌else◌, int_le, Option, None}
@@ -30,11 +30,11 @@ eq_tells a b = by_bool (int_eq a b) (λ e. inl (e, (Decides-int_eq a b).0 e)) (�
   ],
 ))
 
--- at the highest moment each end is known
+-- up to the highest moment every end is known
 known_still : {rows : List Stamped} {ends : Stamped → ℤ} → Proper rows ends → Known rows ends still high
 known_still proper = record { agrees = λ r within begins reaches. let p = (proper r within).1 in omega (arith, ints) }
 
--- the last copy is told of
+-- the last copy fits the rows
 pub first_fits : (horizon : Option ℤ) {versions : List Version} {e : TableEntry} {older : List TableEntry}
     (s : StandsFor horizon versions (e ∷ older)) → Fits s.rows s.ends e high
 first_fits horizon s = beyond horizon high s.top s.told.1.0
@@ -53,7 +53,7 @@ no_less {m} {until} true h =
     elim (lt_tells m until) [ inl s ↦ absurd (let t = s.1 in omega (arith, ints)) | inr s ↦ s.0 ]
 no_less false h = refl
 
--- no copy stands at the end of its span or later
+-- at the end of the newest copy or later, the definitions find no rows
 as_of-none : (horizon : Option ℤ) (rows : List Stamped) (ends known : Stamped
     → ℤ) (until m : ℤ) (entries : List TableEntry) → Told horizon rows ends until entries → until ≤ℤ m
     → as_of_from until known m entries ≡ []
@@ -82,7 +82,7 @@ as_of-stands horizon versions entries m s from =
     elim (lt_tells m high)
     [ inl a ↦ as_of-early horizon versions entries m s from a.1 | inr a ↦ as_of-late horizon versions entries m s a.1 ]
 
--- the range of a proper version lies below the highest moment
+-- for a version that ends by the highest moment, bounding the range by that moment changes nothing
 range_same : (a b : ℤ) (v : Version) → v.end ≤ℤ high → reached a b high v ≡ meets a b v.row.start v.end
 range_same a b v top = by_bool (meets a b v.row.start v.end)
     (λ e. let m : Meets a b v.row.start v.end = meets-says e in
@@ -113,7 +113,7 @@ from_to-stands horizon versions entries a b s from =
           ∙ sym (sum-picked (λ v. meets a b v.row.start v.end) s.ends w s.rows);
     }
 
--- a row is current where it stands after all that happened
+-- a row is current if it exists at the moment of the last copy
 current_is : (rows : List Stamped) (ends : Stamped → ℤ) (e : TableEntry) → Proper rows ends → e.moment <ℤ high
     → Fits rows ends e high → (r : Stamped) → In r rows → stands_at ends e.moment r ≡ is_current (with_end ends r)
 current_is rows ends e proper rises f r within =

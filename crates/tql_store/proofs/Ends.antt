@@ -17,7 +17,7 @@ use Rattle.tql_store.specs.declared.tables.TableSlot.{TableSlot}
 abbrev pub AreBounded : List Version → Type 0
 AreBounded vs = (v : Version) → In v vs → v.end ≤ℤ high
 
--- a current version at rest
+-- those stored as current in a table at rest
 rest-ends : (last : Option ℤ) (h : rows.TableModel) → AtRest last h → AreBounded h.current
 rest-ends last h r v i =
     let s = in-place v h.current i in
@@ -26,7 +26,7 @@ rest-ends last h r v i =
     ((Decides-int_eq (named h s.place).end high).0 (r.is_open s.place s.within)) in
     omega (arith, ints, e)
 
--- one in a transaction
+-- those stored as current in a table in a transaction
 turn-ends : (m : ℤ) (h : rows.TableModel) → InTurn m h → AreBounded h.current
 turn-ends m h t v i =
     let s = in-place v h.current i in
@@ -36,7 +36,7 @@ turn-ends m h t v i =
       | inr e ↦ let a = e.0 in omega (arith, ints, a, below)
     ])
 
--- those of a table in a store
+-- those of each table of a store
 pub are-bounded : (places : List TableSlot) (tables : List rows.TableModel) (touched : List ℕ) (working last : Option ℤ)
     → IsOrderly places tables touched working last → (t : ℕ) → AreBounded (versions (table_at tables t))
 are-bounded places tables touched working last o t v i =

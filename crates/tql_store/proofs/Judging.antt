@@ -1,4 +1,4 @@
--- A change that takes away the current versions whose rows pass a test, named as a reading names them.
+-- A change that removes the current versions whose rows pass a test, with the ids that a reading returns.
 use Rattle.std.proofs.Common.{◌≡◌, ◌≤◌, ℕ, zero, suc, ◌+◌, Bool, true, false, cond, List, [], ◌∷◌, map, filter, refl}
 use Rattle.std.proofs.Common.{sym, ap, subst, ◌∙◌, arith}
 use Rattle.std.specs.Prelude.{◌&&◌, ◌||◌, ltb, count_by, nat_eq, slice_index_or, All, IsTrue, Option, Some, None}
@@ -39,7 +39,7 @@ counting : (i : ℕ) (v : Version) (vs : List Version)
     (λ (x : Version). nat_eq x.id i) vs
 counting i v vs = sum_by-cons (λ (x : Version). cond (nat_eq x.id i) 1 0) v vs
 
--- a slot's place is listed if it is named at all and its row passes
+-- an id is listed if a version found has it and its row passes
 listed-ids : (t : ℕ) (gone : Stamped → Bool) (h : StoreModel) (i : ℕ) (s : definition.Version) → named h t i ≡ Some s
     → (found : List Version) → All (Names h t) found
     → is_among i (ids_of gone found) ≡ (ltb 0 (count_by (λ (x : Version). nat_eq x.id i) found) && gone s.row)
@@ -98,8 +98,8 @@ listed-ids t gone h i s at (v ∷ vs) names =
         none = let zero_of : cond {A = ℕ} (nat_eq v.id i) 1 0 ≡ 0 =
             ap (λ (b : Bool). cond {A = ℕ} b 1 0) e in omega arith
 
--- the ids of the versions whose rows go, among those that pass a test, are judged by these rows, where each current
--- version whose row goes passes it, and no closed one does
+-- the ids of the versions to remove, among those found by a reading, satisfy `Judged`, if the reading finds the current
+-- versions to remove and no closed ones
 pub judged_among : (h : StoreModel) (t : ℕ) (gone : Stamped → Bool) (test : definition.Version → Bool)
     (found : List Version) → All (Names h t) found → NamesOnce h t test found
     → ((i : ℕ) (v : definition.Version) → named h t i ≡ Some v
@@ -114,13 +114,13 @@ judged_among h t gone test found names once agrees = λ i s at.
     regroup true false g = refl
     regroup false c g = refl
 
--- ---- they may be taken away
+-- ---- they may be removed
 
--- no closed version passes a test
+-- only current versions pass a test
 abbrev pub IsOfCurrent : (definition.Version → Bool) → Type 0
 IsOfCurrent test = (v : definition.Version) → test v ≡ true → is_current v ≡ true
 
--- a version that is named and counted is current
+-- each version found is current
 current-found : (h : StoreModel) (t : ℕ) (test : definition.Version → Bool) → IsOfCurrent test
     → (all found : List Version) → NamesOnce h t test all
     → All (Names h t) found
@@ -157,7 +157,7 @@ current-found h t test only all (v ∷ vs) once names fewer =
     first rest zero d l = is_one
     first rest (suc k) d l = rest k d (omega arith)
 
--- an id is counted no more often than by the reading
+-- an id occurs no more often after filtering
 fewer-left : (p : Version → Bool) (i : ℕ) (vs : List Version)
     → count_by (λ (v : Version). nat_eq v.id i) (filter p vs) ≤ count_by (λ (v : Version). nat_eq v.id i) vs
 fewer-left p i [] = omega arith
@@ -174,7 +174,7 @@ names-left : (h : StoreModel) (t : ℕ) (p : Version → Bool) (found : List Ver
     → All (Names h t) (filter p found)
 names-left h t p found names = All-filter p (Names h t) found names
 
--- an id that is named is the id of a version
+-- an id occurs at most once among the versions found
 once-ids : (h : StoreModel) (t : ℕ) (test : definition.Version → Bool) (found : List Version) → All (Names h t) found
     → NamesOnce h t test found
     → (i : ℕ) → count_by (λ (v : Version). nat_eq v.id i) found ≤ 1
@@ -198,7 +198,7 @@ once-ids h t test found names once i = named_or (named h t i) refl
     named_or None e = let k = nobody found names e in omega arith
     named_or (Some v) e = subst (λ (n : ℕ). n ≤ 1) (sym (once i v e)) (at_most (alive v && test v))
 
--- the ids of some of the versions that pass a test which no closed one does
+-- the ids of some of the versions that a reading of current versions finds
 pub removable_among : (h : StoreModel) (t : ℕ) (test : definition.Version → Bool) → IsOfCurrent test
     → (p : Version → Bool) (found : List Version) → All (Names h t) found
     → NamesOnce h t test found → AreRemovable h t (map (λ (v : Version). v.id) (filter p found))
@@ -218,14 +218,14 @@ all_removable h t found names once = record {
       sum-map (λ (v : Version). v.id) (λ j. cond {A = ℕ} (nat_eq j i) 1 0) found in omega arith;
 }
 
--- no ids
+-- no ids at all
 pub none-removable : (h : StoreModel) (t : ℕ) (removed : List ℕ) → removed ≡ [] → AreRemovable h t removed
 none-removable h t removed e = subst (AreRemovable h t) (sym e) (record {
   current = λ k d l. absurd (omega arith);
   once = λ i. omega arith;
 })
 
--- ids stay good where they name what they named
+-- ids remain removable if they name the same versions
 pub still-removable : (old new : StoreModel) (t : ℕ) (removed : List ℕ) → ((id : ℕ) → named new t id ≡ named old t id)
     → AreRemovable old t removed → AreRemovable new t removed
 still-removable old new t removed same r = record {

@@ -1,4 +1,4 @@
--- The horizon of a table is told by its copies: the oldest of them, where the horizon of the database has reached it.
+-- The horizon of a table, given by its copies: the moment of the oldest if the horizon of the database has reached it.
 use Rattle.std.proofs.Common.{◌≡◌, ℕ, Bool, true, false, cond, List, [], ◌∷◌, filter, refl, sym, ap, subst, ◌∙◌, arith}
 use Rattle.std.proofs.Common.{inl, inr}
 use Rattle.std.specs.Prelude.{◌⊎◌, ◌||◌, ℤ, ◌≤ℤ◌, ◌<ℤ◌, int_le, int_lt, if◌then◌else◌, Option, Some, None}
@@ -19,20 +19,20 @@ use Rattle.tql_store.proofs.Laws.{stands-later}
 use Rattle.tql_store.proofs.Readings.{stands_tells, sum-picked}
 use Rattle.tql_store.proofs.Apply.{in-filter, lt_true}
 
--- ---- rows that are left
+-- ---- rows that are kept
 
--- whether a row is left by a horizon
+-- whether a horizon keeps a row
 abbrev is_left : ℤ → (Stamped → ℤ) → Stamped → Bool
 is_left h ends r = int_lt h (ends r) || int_eq (ends r) high
 
 abbrev staying : ℤ → (Stamped → ℤ) → List Stamped → List Stamped
 staying h ends rows = filter (is_left h ends) rows
 
--- a row that ends late enough is left
+-- a row that ends after the horizon is kept
 stays_late : (h : ℤ) (ends : Stamped → ℤ) (r : Stamped) → h <ℤ ends r → is_left h ends r ≡ true
 stays_late h ends r l = ap (λ b. b || int_eq (ends r) high) (lt_true {a = h} {b = ends r} l)
 
--- so is one that is current
+-- so is a current row
 stays_now : (h : ℤ) (ends : Stamped → ℤ) (r : Stamped) → ends r ≡ high → is_left h ends r ≡ true
 stays_now h ends r e = either (int_lt h (ends r)) ((Decides-int_eq (ends r) high).1 e)
   where
@@ -40,7 +40,7 @@ stays_now h ends r e = either (int_lt h (ends r)) ((Decides-int_eq (ends r) high
     either true q = refl
     either false q = q
 
--- a copy that stands beyond the horizon, or until the end, has no row that goes
+-- a copy that lasts beyond the horizon, or until the highest moment, loses no row
 fits_staying : (h : ℤ) (rows : List Stamped) (ends : Stamped → ℤ) (e : TableEntry) (until : ℤ)
     → ((r : Stamped) → In r rows → ends r ≤ℤ high) → (h <ℤ until) ⊎ (until ≡ high) → Fits rows ends e until
     → Fits (staying h ends rows) ends e until
@@ -77,9 +77,9 @@ fits_staying h rows ends e until top late f = record {
           ∙ ap (λ (b : Bool). cond (is_left h ends r) (cond b (w r) 0) 0) (sym s.0)
     ]
 
--- ---- the horizon of what is left
+-- ---- the horizon of the kept copies
 
--- the one that the copies left tell
+-- the horizon that the kept copies give
 abbrev final : ℤ → TableEntry → List TableEntry → Option ℤ
 final h e [] = if int_le e.moment h then Some e.moment else None
 final h e (f ∷ older) = if int_le e.moment h then Some e.moment else final h f older
@@ -98,14 +98,14 @@ kept_final h e (f ∷ older) = either (int_le e.moment h) refl (kept_final h f o
     either true q k = ap (λ b. if b then Some e.moment else None) q
     either false q k = k
 
--- the oldest copy lies below the moment until which the newest stands
+-- the oldest copy is earlier than the moment until which the newest lasts
 oldest_below : (horizon : Option ℤ) (rows : List Stamped) (ends : Stamped → ℤ) (until : ℤ) (e : TableEntry)
     (older : List TableEntry) → Told horizon rows ends until (e ∷ older) → oldest e older <ℤ until
 oldest_below horizon rows ends until e [] told = told.0
 oldest_below horizon rows ends until e (f ∷ older) told =
     let a = told.0 in let b = oldest_below horizon rows ends e.moment f older told.1.1 in omega (arith, ints)
 
--- the copies that are left are told of
+-- the kept copies fit the kept rows
 told_final : (horizon : Option ℤ) (h : ℤ) (rows : List Stamped) (ends : Stamped → ℤ) (until : ℤ) (e : TableEntry)
     (older : List TableEntry) → ((r : Stamped) → In r rows → ends r ≤ℤ high)
     → ((u : ℤ) → oldest e older <ℤ u → Past horizon u → ⊥) → (h <ℤ oldest e older → (u : ℤ) → Past horizon u → ⊥)
@@ -154,7 +154,7 @@ told_final horizon h rows ends until e (f ∷ older) top known bare late told =
     either (inr s) k = subst (λ b. Told (if b then Some e.moment else final h f older) (staying h ends rows) ends until
         (e ∷ (if b then [] else forgotten h (f ∷ older)))) (sym s.0) (told.0, (inr fits, k s.1))
 
--- and it lies below the highest moment
+-- and their horizon is below the highest moment
 final_below : (horizon : Option ℤ) (h : ℤ) (rows : List Stamped) (ends : Stamped → ℤ) (until : ℤ) (e : TableEntry)
     (older : List TableEntry) → until ≤ℤ high → Told horizon rows ends until (e ∷ older) → Under (final h e older) high
 final_below horizon h rows ends until e [] l told = either (int_le e.moment h)
@@ -172,7 +172,7 @@ final_below horizon h rows ends until e (f ∷ older) l told =
 
 -- ---- the law
 
--- what the horizon of some copies leaves to be told
+-- no moment after the oldest copy is past the horizon of the copies
 kept_known : (g : ℤ) (e : TableEntry) (older : List TableEntry) (u : ℤ) → oldest e older <ℤ u
     → Past (kept_of g (e ∷ older)) u → ⊥
 kept_known g e older u l past = either (int_le (oldest e older) g) past
@@ -188,8 +188,8 @@ kept_bare g h e older l k u past = elim (le_tells (oldest e older) g) [
   | inr s ↦ subst (λ b. Past (if b then Some (oldest e older) else None) u) s.0 past
 ]
 
--- of a table that keeps its history the versions left stand for the copies left, and what these tell of the horizon is
--- told by the copies and the new horizon alone
+-- for a table with history, the kept versions represent the kept copies, from the moment that these and the new horizon
+-- give
 pub keeps-law : (g h : ℤ) (versions : List Version) (entries : List TableEntry) → g ≤ℤ h
     → StandsFor (kept_of g entries) versions entries
     → StandsFor (kept_of h (forgotten h entries)) (left_by h versions) (forgotten h entries)
@@ -221,9 +221,9 @@ keeps-law g h versions entries l s = record {
         (told_final (kept_of g (e ∷ older)) h s.rows s.ends high e older (λ r m. (s.proper r m).1)
         (kept_known g e older) (kept_bare g h e older l) (inr refl) told)
 
--- ---- what it allows
+-- ---- consequences
 
--- a question that does not ask before the horizon asks what is told of
+-- a moment that is not before the database horizon is within what is kept
 pub within_kept : (h m : ℤ) (entries : List TableEntry) → h ≤ℤ m → Within (kept_of h entries) m
 within_kept h m [] l = tt
 within_kept h m (e ∷ older) l = either (le_tells (oldest e older) h)
@@ -235,7 +235,7 @@ within_kept h m (e ∷ older) l = either (le_tells (oldest e older) h)
         (let a = s.1 in omega (arith, ints))
     either (inr s) = subst (λ b. Within (if b then Some (oldest e older) else None) m) (sym s.0) tt
 
--- the copies reach back to each of them
+-- no copy is earlier than the oldest
 pub oldest_in : (horizon : Option ℤ) (rows : List Stamped) (ends : Stamped → ℤ) (until : ℤ) (e : TableEntry)
     (older : List TableEntry) → Told horizon rows ends until (e ∷ older) → (x : TableEntry) → In x (e ∷ older)
     → oldest e older ≤ℤ x.moment
@@ -248,7 +248,7 @@ oldest_in horizon rows ends until e (f ∷ older) told x (inl q) =
 oldest_in horizon rows ends until e (f ∷ older) told x (inr m) =
     oldest_in horizon rows ends e.moment f older told.1.1 x m
 
--- so the horizon lies before a moment that is later than the newest
+-- so the horizon is earlier than a moment after the newest copy
 pub kept_under : (g : Option ℤ) (h m : ℤ) (versions : List Version) (entries : List TableEntry)
     → StandsFor g versions entries → Under (newest entries) m → Under (kept_of h entries) m
 kept_under g h m versions [] s later = tt
@@ -261,7 +261,7 @@ kept_under g h m versions (e ∷ older) s later = either (int_le (oldest e older
     either true = let l = back in omega (arith, ints)
     either false = tt
 
--- and what is past it is no later than the newest
+-- and a moment past the horizon is no later than the newest copy
 pub kept_past : (g : Option ℤ) (h u : ℤ) (versions : List Version) (entries : List TableEntry)
     → StandsFor g versions entries → Past (kept_of h entries) u → Past (newest entries) u
 kept_past g h u versions [] s past = past
@@ -274,7 +274,7 @@ kept_past g h u versions (e ∷ older) s past = either (int_le (oldest e older) 
     either true p = let l = back in omega (arith, ints)
     either false p = absurd p
 
--- a further copy changes nothing of it, but the first of all, which a horizon may have reached already
+-- another copy does not change the horizon, unless it is the first one, which the database horizon may have reached
 pub kept-more : (h : ℤ) (versions : List Version) (x : TableEntry) (older : List TableEntry)
     → StandsFor (kept_of h older) versions (x ∷ older) → StandsFor (kept_of h (x ∷ older)) versions (x ∷ older)
 kept-more h versions x [] s =
@@ -285,9 +285,9 @@ kept-more h versions x [] s =
     either false = tt
 kept-more h versions x (e ∷ older) s = s
 
--- ---- a table that keeps its last copy alone
+-- ---- a table that keeps only its last copy
 
--- copies behind one that is not after the horizon may go
+-- copies older than one that is not after the horizon may be removed
 told_forgotten : (g h : ℤ) (rows : List Stamped) (ends : Stamped → ℤ) (until : ℤ) (entries : List TableEntry)
     → ((x : ℤ) → x <ℤ until → x ≤ℤ h → x ≤ℤ g) → Told (Some g) rows ends until entries
     → Told (Some g) rows ends until (forgotten h entries)
@@ -307,7 +307,7 @@ told_forgotten g h rows ends until (e ∷ older) k told = (
     rest (inl s) r = rw (s.0) (inl (k e.moment told.0 s.1))
     rest (inr s) r = rw (s.0) r
 
--- its versions stand for the copies that a horizon leaves as they are
+-- its versions also represent the copies that a horizon keeps
 pub brief-keeps-law : (h : ℤ) (last : Option ℤ) (versions : List Version) (entries : List TableEntry)
     → newest entries ≡ last → StandsFor last versions entries → StandsFor last versions (forgotten h entries)
 brief-keeps-law h last versions [] e s = s
@@ -339,7 +339,7 @@ brief-keeps-law h last versions (x ∷ older) e s =
         rest t (inl q) r = rw (q.0) (inl (omega (arith, ints)))
         rest t (inr q) r = rw (q.0) r
 
--- the newest copy stays
+-- the newest copy is kept
 pub newest-forgotten : (h : ℤ) (entries : List TableEntry) → newest (forgotten h entries) ≡ newest entries
 newest-forgotten h [] = refl
 newest-forgotten h (e ∷ older) = refl

@@ -1,4 +1,4 @@
--- The laws of a store of versions against the copies of one table.
+-- The laws that relate the versions of a store to the copies of one table.
 use Rattle.std.proofs.Common.{◌≡◌, ℕ, ◌+◌, Bool, true, false, cond, List, [], ◌∷◌, map, filter, refl, sym, ap, subst}
 use Rattle.std.proofs.Common.{◌∙◌, arith, inl, inr}
 use Rattle.std.specs.Prelude.{not, ◌&&◌, ℤ, ◌≤ℤ◌, ◌<ℤ◌, int_le, int_lt, if◌then◌else◌, Option, Some, None}
@@ -25,7 +25,7 @@ use Rattle.tql_versions.specs.Changes.{alive, fresh, closed_if, replaced, reopen
 use Rattle.tql_store.specs.Changes.{starting, begun, rows_after, newest, InTransaction, last_rows}
 use Rattle.tql_store.specs.Stands.{stands_at, Within, Fits, Told, Proper, StandsFor}
 
--- a turn, of versions that stand for copies of which the newest is of the moment
+-- the rows of a transaction, from versions that represent copies of which the newest has its moment
 abbrev turn_of : (horizon : Option ℤ) {versions older : List _} {c : List Stamped} (m : ℤ) (gone : Stamped → Bool)
     → m <ℤ high → StandsFor horizon versions (record { moment = m; rows = c } ∷ older) → Turn
 turn_of horizon m gone below s = record {
@@ -51,7 +51,7 @@ same-replaced m gone added h =
 pub same-undone : (m : ℤ) {xs ys : List Version} → SameBag xs ys → SameBag (undone m xs) (undone m ys)
 same-undone m h = same-map (reopened m) (same-filter (λ v. int_lt v.row.start m) h)
 
--- the new copy is the rows that stand
+-- the new copy consists of the rows that exist at the moment
 copy_after : (x : Turn) (added : List (List Datum)) (c : List Stamped)
     → SameBag c (filter (stands_at x.ends x.m) x.rows)
     → SameBag (rows_after x.m x.gone added c) (filter (stands_at (ends_after x) x.m) (rows_told x added))
@@ -179,7 +179,7 @@ sum-undone : (m : ℤ) (ends : Stamped → ℤ) (w : Version → ℕ) (rows : Li
 sum-undone m ends w rows = sum-map (reopened m) w (filter (λ v. int_lt v.row.start m) (completed ends rows))
     ∙ sum-picked (λ v. int_lt v.row.start m) ends (λ v. w (reopened m v)) rows
 
--- what a change did is undone with the rest
+-- undoing the transaction also undoes a change in it
 undone-replaced : (x : Turn) (added : List (List Datum))
     → SameBag (undone x.m (completed (ends_after x) (rows_told x added))) (undone x.m (completed x.ends x.rows))
 undone-replaced x added = record {
@@ -247,7 +247,7 @@ same-stands h s = record {
   told = s.told;
 }
 
--- nothing is undone at a later moment
+-- undoing a transaction of a moment after the newest copy changes nothing
 undone-later : (horizon : Option ℤ) (m : ℤ) (versions : List Version) (entries : List TableEntry)
     → StandsFor horizon versions entries → Under (newest entries) m → m <ℤ high → SameBag (undone m versions) versions
 undone-later horizon m versions entries s later below =
@@ -280,7 +280,7 @@ undone-later horizon m versions entries s later below =
           ∙ sym (sum-map (with_end s.ends) w s.rows);
     }
 
--- ---- a later horizon
+-- ---- later horizons
 
 told-later : (g h : Option ℤ) (rows : List Stamped) (ends : Stamped → ℤ) (until : ℤ) (entries : List TableEntry)
     → ((u : ℤ) → Past g u → Past h u) → Told g rows ends until entries → Told h rows ends until entries
@@ -294,7 +294,7 @@ told-later g h rows ends until (e ∷ older) k told = (
   ),
 )
 
--- versions that stand for copies from a horizon on do so from a later one on
+-- versions that represent the copies from a horizon on also do so from a later one
 pub stands-later : (g h : Option ℤ) (versions : List Version) (entries : List TableEntry)
     → ((u : ℤ) → Past g u → Past h u) → Under h high → StandsFor g versions entries → StandsFor h versions entries
 stands-later g h versions entries k top s = record {
@@ -343,12 +343,12 @@ pub rollback-law : (horizon : Option ℤ) (old new : List Version) (working : Ta
     → InTransaction horizon old working older → SameBag new (undone working.moment old) → StandsFor horizon new older
 rollback-law horizon old new working older t is = same-stands is t.before
 
--- a table that keeps its history
+-- a table with history
 pub commit-law : (horizon : Option ℤ) (old new : List Version) (working : TableEntry) (older : List TableEntry)
     → InTransaction horizon old working older → SameBag new old → StandsFor horizon new (working ∷ older)
 commit-law horizon old new working older t is = same-stands is t.now
 
--- a table that keeps its last copy alone
+-- a table that keeps only its last copy
 pub brief-commit-law : (horizon : Option ℤ) (old new : List Version) (working : TableEntry) (older : List TableEntry)
     → InTransaction horizon old working older → SameBag new (pruned working.moment old)
     → StandsFor (Some working.moment) new (working ∷ older)

@@ -1,4 +1,4 @@
--- What is found of a store tells what is found of it at a pin.
+-- How the versions found in a store give those found at a pin.
 use Rattle.std.proofs.Common.{◌≡◌, ℕ, ◌≤◌, ◌<◌, zero, suc, Bool, true, false, cond, List, [], ◌∷◌, map, filter, length}
 use Rattle.std.proofs.Common.{refl, sym, ap, subst, ◌∙◌, arith, inl, inr, get_or}
 use Rattle.std.specs.Prelude.{◌&&◌, ◌||◌, ℤ, ◌≤ℤ◌, count_by, nat_eq, slice_get, slice_index_or, All}
@@ -31,11 +31,11 @@ use Rattle.tql_store.specs.declared.tables.TableSlot.TheVariants.{Free, Versione
 
 -- ---- a version
 
--- a question and a test of rows
+-- a query and a test of rows
 abbrev both : When → (Row → Bool) → Version → Bool
 both when test v = asked when v && test v.row.cells
 
--- a version is found at a pin where the other question finds it, and then it had begun
+-- a version is found at a pin if the store query finds it, and then it had begun
 record IsShown (p : ℤ) (when other : When) (test : Row → Bool) (v : Version) : Type 0 where
   pub passes : told_by (both when test) (shown_at (Some p) v) ≡ told_by (both other test) v
   pub is : told_by (both other test) v ≡ true → shown_at (Some p) v ≡ capped p v
@@ -65,7 +65,7 @@ is-shown p when other test v asks top = elim (le_tells v.row.start p) [
       }
 ]
 
--- those that are found
+-- the versions found
 shown-found : (p : ℤ) (when other : When) (test : Row → Bool) (versions : List Version) → AsksAt p when other
     → AreBounded versions
     → filter (told_by (both when test)) (map (shown_at (Some p)) versions)
@@ -84,14 +84,14 @@ shown-found p when other test (v ∷ versions) asks bounded =
         (λ t. let x = s.passes ∙ t in rw (x, t, s.is t) (ap (λ vs. capped p v ∷ vs) rest))
         (λ t. let x = s.passes ∙ t in rw (x, t) rest)
 
--- ---- the parts of what is found
+-- ---- the parts of a result
 
 shown-capped : (p : ℤ) (found : List answer.Version)
     → map version_shown (map (answer_capped p) found) ≡ map (capped p) (map version_shown found)
 shown-capped p [] = refl
 shown-capped p (s ∷ found) = ap (λ vs. capped p (version_shown s) ∷ vs) (shown-capped p found)
 
--- the same ids are counted
+-- each id occurs equally often
 count-capped : (p : ℤ) (id : ℕ) (found : List answer.Version)
     → count_by (λ (s : answer.Version). nat_eq s.id id) (map (answer_capped p) found)
     ≡ count_by (λ (s : answer.Version). nat_eq s.id id) found
@@ -111,7 +111,7 @@ in_place (y ∷ ys) zero x e = inl (is_that e)
     is_that e = cc
 in_place (y ∷ ys) (suc k) x e = inr (in_place ys k x e)
 
--- one that is found is asked for
+-- each version found is selected
 is-asked : (h : StoreModel) (t : ℕ) (test : Version → Bool) (found : List answer.Version) (s : answer.Version)
     → NamesOnce h t test found → In s found → Names h t s → told_by test (version_shown s) ≡ true
 is-asked h t test found s once m name =
@@ -129,7 +129,7 @@ is-asked h t test found s once m name =
     some = let l = sum-least (λ (x : answer.Version). cond {A = ℕ} (nat_eq x.id s.id) 1 0) s found m in
         omega (arith, here, l)
 
--- the version that an id names at a pin
+-- the version with an id at a pin
 named-pinned : (pin : Option ℤ) (h : StoreModel) (t id : ℕ) → is_kept (slot_at h.tables t) ≡ true
     → named (pinned pin h) t id ≡ option_map (shown_at pin) (named h t id)
 named-pinned pin h t id kept =
@@ -147,7 +147,7 @@ kept-at pin h t there = only (slot_at h.tables t) (sym (ap is_taken (slot_shown 
     only Versioned e = refl
     only Unversioned e = absurd (cc)
 
--- so its past may be asked for, at a pin
+-- so history may be queried at a pin
 is_past : (pin : Option ℤ) (h : StoreModel) (t : ℕ) (when : When) → is_kept (slot_at h.tables t) ≡ true
     → (is_now (when_of when) || is_versioned (pinned pin h) t) ≡ true
 is_past pin h t when kept = either (is_now (when_of when))
@@ -157,7 +157,7 @@ is_past pin h t when kept = either (is_now (when_of when))
     either true e = refl
     either false e = e
 
--- ---- all that is found
+-- ---- the whole result
 
 found-bag : (p : ℤ) (h : StoreModel) (t : ℕ) (when other : When) (test : Row → Bool) (found : List answer.Version)
     → AsksAt p when other → is_kept (slot_at h.tables t) ≡ true → AreBounded (slice_index_or h.versions t [])
@@ -210,7 +210,7 @@ found-once p h t when other test found asks kept bounded is id w name =
         is.once id v e
         ∙ ap (λ (b : Bool). if b then 1 else 0) (sym shown.passes ∙ ap (told_by (both when test)) (same v f))
 
--- what another question finds of a store is, with ends as they were, what a question finds at a pin
+-- the result of the store query, with ends as known at a pin, is the result of the query at the pin
 pub found-at : (p : ℤ) (h : StoreModel) (t : ℕ) (when other : When) (test : Row → Bool) (found : List answer.Version)
     → AsksAt p when other → has_table (pinned (Some p) h) t ≡ true → AreBounded (slice_index_or h.versions t [])
     → IsFound h t other test found → IsFound (pinned (Some p) h) t when test (map (answer_capped p) found)

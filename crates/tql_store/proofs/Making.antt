@@ -1,4 +1,4 @@
--- What a change of one table's rows does to the list of all, as the code tells it.
+-- What a change of one table's rows does to the list of all tables, from the contract clauses of the code.
 use Rattle.std.proofs.Common.{◌≡◌, ℕ, ◌<◌, Bool, true, List, ◌++◌, map, filter, length, Result, Ok, Err, sym}
 use Rattle.std.proofs.Common.{ap, subst, ◌∙◌}
 use Rattle.std.specs.Prelude.{ℤ, slice_set, Option, Some, OnErr}

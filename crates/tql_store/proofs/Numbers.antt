@@ -1,4 +1,4 @@
--- The tables of a store by their numbers: one is put or changed, and the others stay.
+-- The tables of a store by their numbers: one is replaced or changed, and the others are not.
 use Rattle.std.proofs.Common.{◌≡◌, ◌≢◌, ℕ, zero, suc, ◌<◌, ◌≤◌, true, false, List, [], ◌∷◌, ◌++◌, map}
 use Rattle.std.proofs.Common.{length, refl, sym, ap, subst, ◌∙◌, arith, inl, inr}
 use Rattle.std.specs.Prelude.{nat_eq, slice_index_or, slice_set, Contains, ◌⊎◌}
@@ -20,7 +20,7 @@ self_number i = grind (arith, nat_tests)
 pub two_numbers : (i j : ℕ) → nat_eq i j ≡ false → i ≢ j
 two_numbers i j e = λ same. grind (arith, nat_tests)
 
--- ---- a table that is put
+-- ---- replacing a table
 
 pub put-here : (ts : List TableModel) (n : ℕ) (x : TableModel) → n < length ts → table_at (slice_set ts n x) n ≡ x
 put-here [] n x l = absurd (omega (arith, l))
@@ -46,13 +46,13 @@ put-versions [] n x e = refl
 put-versions (t ∷ ts) zero x e = ap (λ v. v ∷ map versions ts) e
 put-versions (t ∷ ts) (suc n) x e = ap (λ vs. versions t ∷ vs) (put-versions ts n x e)
 
--- the versions of a number
+-- the versions of the table with a number
 pub versions-at : (ts : List TableModel) (t : ℕ) → slice_index_or (map versions ts) t [] ≡ versions (table_at ts t)
 versions-at [] t = refl
 versions-at (s ∷ ts) zero = refl
 versions-at (s ∷ ts) (suc t) = versions-at ts t
 
--- ---- where tables stand
+-- ---- numbers in use
 
 within_places : (ps : List TableSlot) (t : ℕ) → is_taken (slot_at ps t) ≡ true → t < length ps
 within_places [] t e = absurd (let f : false ≡ true = e in cc)
@@ -71,7 +71,7 @@ kept_taken Unversioned e = refl
 pub taken_not_free : (p : TableSlot) → is_taken p ≡ true → p ≡ Free → ⊥
 taken_not_free p e f = let g : false ≡ true = ap is_taken (sym f) ∙ e in cc
 
--- ---- numbers that are touched
+-- ---- touched numbers
 
 pub record IsTouched (touched : List ℕ) (t : ℕ) : Type 0 where
   pub place : ℕ
@@ -95,7 +95,7 @@ touched-or (n ∷ ns) t = by_bool (nat_eq n t)
 abbrev pub AreApart : List ℕ → Type 0
 AreApart touched = (j k : ℕ) → j < k → k < length touched → touch_at touched j ≢ touch_at touched k
 
--- what a note leaves
+-- the touched numbers after one is added
 pub record Noted (n : ℕ) (old new : List ℕ) : Type 0 where
   pub has : IsTouched new n
   pub fewer : (t : ℕ) → IsUntouched new t → IsUntouched old t
@@ -166,7 +166,7 @@ pub noted : (n : ℕ) (old new : List ℕ) → IsNoted n old new → Noted n old
 noted n old new (inl s) = subst (λ (xs : List ℕ). Noted n old xs) (sym s.0) (noted_same n old s.1)
 noted n old new (inr s) = subst (λ (xs : List ℕ). Noted n old xs) (sym s.0) (noted_more n old s.1)
 
--- an element that was read is the table of its number
+-- an element that the code reads is the table with its number
 pub element-at : (ts : List TableModel) (i n : ℕ) (x : TableModel) → x ≡ slice_index_or ts i x → i ≡ n → n < length ts
     → x ≡ table_at ts n
 element-at ts i n x e q l = e ∙ ap (λ (j : ℕ). slice_index_or ts j x) q ∙ get_or_default ts n x (empty false) l

@@ -1,4 +1,4 @@
--- A store that is shown at a pin: its tables, its versions, and the copies that it stands for.
+-- A store shown at a pin: its tables, its versions, and the copies that it represents.
 use Rattle.std.proofs.Common.{◌≡◌, ℕ, zero, suc, Bool, true, false, List, [], ◌∷◌, map, filter, refl, sym, ap, subst}
 use Rattle.std.proofs.Common.{◌∙◌, arith, inl, inr}
 use Rattle.std.specs.Prelude.{◌⊎◌, ◌&&◌, ℤ, ◌≤ℤ◌, ◌<ℤ◌, int_le, int_lt, slice_index_or, Option, Some, None}
@@ -28,7 +28,7 @@ use Rattle.tql_store.specs.declared.tables.TableSlot.TheVariants.{Free, Versione
 
 -- ---- tables
 
--- what is shown at a number
+-- the slot shown for a number
 pub slot_shown : (slots : List TableSlot) (t : ℕ) → slot_at (map slot_pinned slots) t ≡ slot_pinned (slot_at slots t)
 slot_shown [] t = refl
 slot_shown (s ∷ slots) zero = refl
@@ -45,7 +45,7 @@ shown_not_brief Free = refl
 shown_not_brief Versioned = refl
 shown_not_brief Unversioned = refl
 
--- the versions that are shown at a number
+-- the versions shown for a number
 pub versions_shown : (pin : Option ℤ) (slots : List TableSlot) (tables : List (List Version)) (t : ℕ)
     → slice_index_or (versions_pinned pin slots tables) t []
     ≡ versions_of_slot pin (slot_at slots t) (slice_index_or tables t [])
@@ -58,7 +58,7 @@ versions_shown pin (s ∷ slots) [] t = none (is_kept (slot_at (s ∷ slots) t))
 versions_shown pin (s ∷ slots) (vs ∷ tables) zero = refl
 versions_shown pin (s ∷ slots) (vs ∷ tables) (suc t) = versions_shown pin slots tables t
 
--- of those the ones that hold a moment
+-- the non-empty ones of these
 pub live-pinned : (pin : Option ℤ) (h : StoreModel) (t : ℕ)
     → live (pinned pin h) t ≡ filter alive (versions_of_slot pin (slot_at h.tables t) (slice_index_or h.versions t []))
 live-pinned pin h t = ap (filter alive) (versions_shown pin h.tables h.versions t)
@@ -68,12 +68,12 @@ live-pinned pin h t = ap (filter alive) (versions_shown pin h.tables h.versions 
 nothing_dead : alive nothing ≡ false
 nothing_dead = lt_false {a = high} {b = high} (omega (arith, ints))
 
--- before any commit no version holds a moment
+-- before any commit every version shown is empty
 pub none-live : (versions : List Version) → filter alive (map (shown_at None) versions) ≡ []
 none-live [] = refl
 none-live (v ∷ versions) = none-live versions
 
--- what is shown holds a moment where the version does and has begun
+-- a version shown is non-empty if the version is and had begun
 shown_alive : (p : ℤ) → p <ℤ high → (v : Version) → alive (shown_at (Some p) v) ≡ (alive v && int_le v.row.start p)
 shown_alive p below v = either (le_tells v.row.start p)
   where
@@ -99,7 +99,7 @@ shown_alive p below v = either (le_tells v.row.start p)
     either (inl s) = rw (s.0) (same s.1 ∙ sym (and_true (alive v)))
     either (inr s) = rw (s.0) (nothing_dead ∙ sym (and_false (alive v)))
 
--- those that hold a moment, of what is shown
+-- the non-empty versions shown
 shown-live : (p : ℤ) → p <ℤ high → (versions : List Version)
     → filter alive (map (shown_at (Some p)) versions) ≡ begun_versions p (filter alive versions)
 shown-live p below [] = refl
@@ -111,7 +111,7 @@ shown-live p below (v ∷ versions) = by_bool (alive v)
 
 -- ---- copies
 
--- the newest copy up to that of a pin is that
+-- the newest copy up to a pin, if the pin is the moment of a copy
 newest-until : (horizon : Option ℤ) (rows : List Stamped) (ends : Stamped → ℤ) (until p : ℤ) (entries : List TableEntry)
     → Told horizon rows ends until entries → (e : TableEntry) → In e entries → e.moment ≡ p
     → newest (not_after p entries) ≡ Some p
@@ -133,7 +133,7 @@ newest-until horizon rows ends until p (x ∷ older) told e m q =
     either (inr s) k (inl z) = absurd (let a = moment_of z in let b = s.1 in omega (arith, ints))
     either (inr s) k (inr n) = rw (s.0) (k n)
 
--- the copies up to that of a pin tell from where on versions are kept
+-- the copies up to a pin give the same moment from which versions are kept
 kept-until : (k p : ℤ) (entries : List TableEntry) (e : TableEntry) → In e entries → e.moment ≡ p
     → kept_of k (not_after p entries) ≡ kept_of k entries
 kept-until k p [] e m q = absurd m
@@ -151,7 +151,7 @@ kept-until k p (x ∷ older) e m q = either (le_tells x.moment p) (λ n. kept-un
         absurd (let a : e.moment ≡ x.moment = ap (λ (y : TableEntry). y.moment) z in let b = s.1 in omega (arith, ints))
     either (inr s) h (inr n) = rw (s.0) (h n ∙ more older n)
 
--- and these reach back to it
+-- and the pin is not before that moment
 reaches_pin : (horizon : Option ℤ) (rows : List Stamped) (ends : Stamped → ℤ) (until k p : ℤ)
     (entries : List TableEntry) → Told horizon rows ends until entries → (e : TableEntry) → In e entries
     → e.moment ≡ p → Within (kept_of k entries) p
@@ -167,7 +167,7 @@ reaches_pin horizon rows ends until k p (x ∷ older) told e m q = either (int_l
 
 -- ---- with an open transaction
 
--- the copies that the versions stand for: a working copy counts as the last commit
+-- the copies that the versions represent: a working copy counts as committed
 abbrev seen_with : Option ℤ → List Stamped → List TableEntry → List TableEntry
 seen_with None rows entries = entries
 seen_with (Some m) rows entries = record { moment = m; rows = rows } ∷ entries
@@ -177,7 +177,7 @@ stands-seen : (horizon o : Option ℤ) (versions : List Version) (entries : List
 stands-seen horizon None versions entries rows s = s
 stands-seen horizon (Some m) versions entries rows s = s.now
 
--- some versions stand for the copies that were committed
+-- some versions represent the committed copies
 record Stood (horizon : Option ℤ) (entries : List TableEntry) : Type 0 where
   pub versions : List Version
   pub stands : StandsFor horizon versions entries
@@ -192,7 +192,7 @@ in_seen : (o : Option ℤ) (rows : List Stamped) (entries : List TableEntry) (e 
 in_seen None rows entries e m = m
 in_seen (Some n) rows entries e m = inr m
 
--- no pin is later than the last commit
+-- no pin is later than the last commit, so the copies up to it do not include the working copy
 until_seen : (horizon o : Option ℤ) (versions : List Version) (entries : List TableEntry) (rows : List Stamped) (p : ℤ)
     → StandsWith horizon o versions entries rows → (e : TableEntry) → In e entries → e.moment ≡ p
     → not_after p (seen_with o rows entries) ≡ not_after p entries
@@ -248,7 +248,7 @@ wider m until (e ∷ older) l told = (
   ),
 )
 
--- the copies up to a moment without rows
+-- the copies up to a moment, without their rows, fit the empty list of rows
 cut-emptied : (horizon : Option ℤ) (rows : List Stamped) (ends : Stamped → ℤ) (until p : ℤ) (entries : List TableEntry)
     → Told horizon rows ends until entries → Told None [] still until (emptied (not_after p entries))
 cut-emptied horizon rows ends until p [] told = inr (λ r m. absurd m)
@@ -269,7 +269,7 @@ gone-stands (Some p) k horizon o versions entries rows s =
     let t = (stood horizon o versions entries rows s).stands in
     none-stands k (not_after p entries) (cut-emptied horizon t.rows t.ends high p entries t.told)
 
--- the copies of a table that are shown
+-- the copies of a table shown
 abbrev copies_shown : Option ℤ → TableSlot → List TableEntry → List TableEntry
 copies_shown pin s entries = if is_kept s then until_pin pin entries else emptied (until_pin pin entries)
 
@@ -305,7 +305,7 @@ newest-shown pin s horizon versions entries is t = either (is_kept s) (until_pin
     last None i = refl
     last (Some p) i = newest-until horizon t.rows t.ends high p entries t.told i.0 i.1 i.2
 
--- a store that is shown at a pin stands for the copies up to it
+-- a store shown at a pin represents the copies up to it
 pub pin-copies : (pin : Option ℤ) (h : StoreModel) → PinCopies pin h (pinned pin h)
 pin-copies pin h = λ copies working any pins r. record {
   dated = λ t. let s = stood _ h.working _ _ _ (r.stands t) in

@@ -1,4 +1,4 @@
--- What a store shows at a pin stands for the copies up to it.
+-- The versions shown at a pin represent the copies up to it.
 use Rattle.std.proofs.Common.{◌≡◌, ℕ, Bool, true, false, cond, List, [], ◌∷◌, map, filter, refl, sym, ap, subst}
 use Rattle.std.proofs.Common.{◌∙◌, arith, inl, inr}
 use Rattle.std.specs.Prelude.{◌⊎◌, ◌&&◌, ℤ, ◌≤ℤ◌, ◌<ℤ◌, int_le, int_lt, if◌then◌else◌, Option, Some, None}
@@ -17,7 +17,7 @@ use Rattle.tql_store.specs.Stands.{stands_at, Within, Fits, Told, StandsFor}
 
 -- ---- one table
 
--- where rows end that are seen at a moment
+-- the end of a row as known at a moment
 abbrev ends_at : ℤ → (Stamped → ℤ) → Stamped → ℤ
 ends_at p ends r = if int_lt p (ends r) then high else ends r
 
@@ -25,13 +25,13 @@ ends_at p ends r = if int_lt p (ends r) then high else ends r
 abbrev begun_by : ℤ → List Stamped → List Stamped
 begun_by p rows = filter (λ r. int_le r.start p) rows
 
--- what has begun began no later
+-- a row that had begun starts no later than the moment
 begun_says : (p : ℤ) (rows : List Stamped) (r : Stamped) → In r (begun_by p rows) → In r rows × (r.start ≤ℤ p)
 begun_says p rows r m =
     let k = in-filter (λ x. int_le x.start p) r rows m in
     (k.0, elim (le_tells r.start p) [ inl s ↦ s.1 | inr s ↦ absurd (let a = s.0 in let b = k.1 in cc) ])
 
--- how a row is seen to end
+-- the two cases of a known end
 ends_tell : (p : ℤ) (ends : Stamped → ℤ) (r : Stamped)
     → ((p <ℤ ends r) × (ends_at p ends r ≡ high)) ⊎ ((ends r ≤ℤ p) × (ends_at p ends r ≡ ends r))
 ends_tell p ends r = elim (lt_tells p (ends r)) [
@@ -39,7 +39,7 @@ ends_tell p ends r = elim (lt_tells p (ends r)) [
   | inr s ↦ inr (s.1, ap (λ b. if b then high else ends r) s.0)
 ]
 
--- at a moment up to the pin the same rows stand
+-- at a moment up to the pin, the same rows exist
 stands_same : (p m : ℤ) (ends : Stamped → ℤ) (r : Stamped) → m ≤ℤ p → p <ℤ high
     → stands_at (ends_at p ends) m r ≡ stands_at ends m r
 stands_same p m ends r l top = elim (ends_tell p ends r) [
@@ -76,7 +76,7 @@ copy_pinned p rows ends e l top f = same-trans f (record {
           (stands_same p e.moment ends r l top ∙ s.0))
     ]
 
--- the copies before the one of the pin
+-- the copies before the pin fit these rows
 told_before : (horizon : Option ℤ) (p : ℤ) (rows : List Stamped) (ends : Stamped → ℤ) (until : ℤ)
     (entries : List TableEntry) → until ≤ℤ p → p <ℤ high → Told horizon rows ends until entries
     → Told horizon (begun_by p rows) (ends_at p ends) until entries
@@ -101,7 +101,7 @@ told_before horizon p rows ends until (e ∷ older) l top told = (
       ];
     }
 
--- a copy lies below the moment until which the newest stands
+-- each copy is earlier than the moment until which the newest lasts
 pub told_below : (horizon : Option ℤ) (rows : List Stamped) (ends : Stamped → ℤ) (until : ℤ) (entries : List TableEntry)
     → Told horizon rows ends until entries → (e : TableEntry) → In e entries → e.moment <ℤ until
 told_below horizon rows ends until [] told e m = absurd m
@@ -110,7 +110,7 @@ told_below horizon rows ends until (x ∷ older) told e (inl q) =
 told_below horizon rows ends until (x ∷ older) told e (inr m) =
     let a = told.0 in let b = told_below horizon rows ends x.moment older told.1.1 e m in omega (arith, ints)
 
--- the copies up to the pin, its own standing from then on
+-- the copies up to the pin fit these rows, the one of the pin from then on
 told_at : (horizon : Option ℤ) (p : ℤ) (rows : List Stamped) (ends : Stamped → ℤ) (until : ℤ)
     (entries : List TableEntry) → Within horizon p → p <ℤ until → until ≤ℤ high
     → (e : TableEntry) → In e entries → e.moment ≡ p → Told horizon rows ends until entries
@@ -155,7 +155,7 @@ told_at horizon p rows ends until (x ∷ older) from l top e m q told = elim (le
 abbrev pub begun_versions : ℤ → List Version → List Version
 begun_versions p versions = map (capped p) (filter (λ v. int_le v.row.start p) versions)
 
--- they stand for the copies up to that of the moment, where the history reaches back to it
+-- they represent the copies up to a moment, if history reaches back to it
 pub pin-stands : (horizon : Option ℤ) (p : ℤ) (versions : List Version) (entries : List TableEntry) → Within horizon p
     → IsPin (Some p) entries → StandsFor horizon versions entries
     → StandsFor horizon (begun_versions p versions) (not_after p entries)
@@ -186,7 +186,7 @@ pin-stands horizon p versions entries from pin s = record {
 
 -- ---- the copies of one table and of all
 
--- what is not after a moment
+-- up to a moment
 pub history_not_after : (t : ℕ) (p : ℤ) (es : List Entry)
     → table_history t (laws.not_after p es) ≡ not_after p (table_history t es)
 history_not_after t p [] = refl
@@ -201,7 +201,7 @@ history_not_after t p (e ∷ older) = either (int_le e.moment p) (history_not_af
     either true k = refl
     either false k = k
 
--- what is not after a pin
+-- up to a pin
 pub history-until-pin : (t : ℕ) (pin : Option ℤ) (es : List Entry)
     → table_history t (laws.until_pin pin es) ≡ until_pin pin (table_history t es)
 history-until-pin t None es = refl

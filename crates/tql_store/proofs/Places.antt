@@ -1,4 +1,4 @@
--- How many tables there are, and where none is.
+-- The number of tables, and the lowest free number.
 use Rattle.std.proofs.Common.{◌≡◌, ◌<◌, ◌≤◌, ℕ, zero, suc, ◌+◌, Bool, true, false, cond, List, [], ◌∷◌, length, refl}
 use Rattle.std.proofs.Common.{sym, ap, ◌∙◌, arith}
 use Rattle.std.specs.Prelude.{count_by, nat_eq, if◌then◌else◌}
@@ -10,7 +10,7 @@ use Rattle.tql_store.specs.TableSlots.{slot_at, place_for, is_taken}
 use Rattle.tql_store.specs.declared.tables.TableSlot.{TableSlot}
 use Rattle.tql_store.specs.declared.tables.TableSlot.TheVariants.{Free, Versioned, Unversioned}
 
--- one for a slot in which a table stands
+-- one for a slot with a table, else zero
 abbrev pub one : TableSlot → ℕ
 one p = cond (is_taken p) 1 0
 
@@ -27,9 +27,9 @@ rest-place : (ps : List TableSlot) (u : ℕ) → slot_at (rest ps) u ≡ slot_at
 rest-place [] u = refl
 rest-place (p ∷ ps) u = refl
 
--- ---- numbers at which tables stand
+-- ---- numbers in use
 
--- a number below which tables stand is no greater than their count
+-- a number below which all are in use is no greater than the number of tables
 pub stand-below : (ps : List TableSlot) (i : ℕ) → ((k : ℕ) → k < i → is_taken (slot_at ps k) ≡ true) → i ≤ length ps
     → i ≤ count_by is_taken ps
 stand-below ps zero h within = omega arith
@@ -94,7 +94,7 @@ one_for : (b : Bool) → one (place_for b) ≡ 1
 one_for true = refl
 one_for false = refl
 
--- a table more
+-- one table more
 pub adds : (versioned : Bool) (t : ℕ) (old new : StoreModel) → slot_at old.tables t ≡ Free
     → Takes t (place_for versioned) old.tables new.tables → new.working ≡ old.working → new.last ≡ old.last
     → new.horizon ≡ old.horizon → ((u : ℕ) → live new u ≡ live old u)
@@ -110,7 +110,7 @@ adds versioned t old new free takes working last reach versions = record {
   versions = versions;
 }
 
--- a table less
+-- one table fewer
 pub drops : (t : ℕ) (old new : List TableSlot) → is_taken (slot_at old t) ≡ true → Takes t Free old new
     → count_by is_taken new + 1 ≡ count_by is_taken old
 drops t old new there takes =

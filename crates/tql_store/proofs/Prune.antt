@@ -1,4 +1,4 @@
--- A later horizon: what was told before it is forgotten. An unversioned table is one whose horizon is the last commit.
+-- A later horizon forgets older history. For an unversioned table the horizon is the last commit.
 use Rattle.std.proofs.Common.{◌≡◌, ℕ, Bool, true, false, cond, List, [], ◌∷◌, filter, refl, sym, ap, ◌∙◌, arith, inl}
 use Rattle.std.proofs.Common.{inr}
 use Rattle.std.specs.Prelude.{ℤ, ◌≤ℤ◌, ◌<ℤ◌, int_lt, Option, Some, None}
@@ -14,12 +14,12 @@ use Rattle.tql_store.proofs.Readings.{stands_tells, sum-picked}
 use Rattle.tql_versions.specs.Changes.{pruned, Past}
 use Rattle.tql_store.specs.Stands.{stands_at, Within, Fits, Told, StandsFor}
 
--- what was past a horizon is past a later one
+-- a moment past a horizon is no later than a later horizon
 later : (horizon : Option ℤ) {h until : ℤ} → Within horizon h → Past horizon until → until ≤ℤ h
 later None from past = absurd past
 later (Some g) from past = omega (arith, ints)
 
--- the rows that end after it
+-- the rows that end after a horizon
 abbrev pub kept : ℤ → (Stamped → ℤ) → List Stamped → List Stamped
 kept h ends rows = filter (λ r. int_lt h (ends r)) rows
 
@@ -71,7 +71,7 @@ prune-told horizon h rows ends until (e ∷ older) from told = (
   ),
 )
 
--- the versions that end after a later horizon stand for the copies from there on
+-- the versions that end after a later horizon represent the copies from there on
 pub prune-stands : (horizon : Option ℤ) (h : ℤ) (versions : List Version) (entries : List TableEntry)
     → Within horizon h → h <ℤ high → StandsFor horizon versions entries → StandsFor (Some h) (pruned h versions) entries
 prune-stands horizon h versions entries from below s = record {

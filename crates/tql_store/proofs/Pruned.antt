@@ -1,4 +1,4 @@
--- A store whose tables are pruned, one by one.
+-- Pruning each table of a store.
 use Rattle.std.proofs.Common.{◌≡◌, ℕ, zero, suc, ◌+◌, ◌<◌, ◌≤◌, Bool, true, false, List, [], ◌∷◌, ◌++◌, map, length}
 use Rattle.std.proofs.Common.{get_or, set, length-append, refl, sym, ap, subst, ◌∙◌, arith, inl, inr}
 use Rattle.std.specs.Prelude.{ℤ, IsNone, Option, None, Some, if◌then◌else◌}
@@ -19,7 +19,7 @@ use Rattle.tql_store.specs.TableSlots.{slot_at, is_brief, is_kept}
 use Rattle.tql_store.specs.declared.tables.TableSlot.{TableSlot}
 use Rattle.tql_store.specs.declared.tables.TableSlot.TheVariants.{Free, Versioned, Unversioned}
 
--- ---- where closed versions stand is made for one table after the other
+-- ---- new indexes are built for one table after another
 
 at_end : (ps : List (Option Pruning)) (p : Option Pruning) → pruning_at (ps ++ p ∷ []) (length ps) ≡ p
 at_end [] p = refl
@@ -52,9 +52,9 @@ made_all h h' tables prunings k at most all size each =
     subst (λ (x : ℤ). AreMade x tables prunings) at
     (record { even = omega (arith, most, all, size); each = λ t l. each t (omega (arith, all, l)) })
 
--- ---- tables are pruned one after the other
+-- ---- one table after another is pruned
 
--- so many are
+-- the first `n` tables are pruned
 pub record HavePruned (h : ℤ) (n : ℕ) (old new : List TableModel) (first left : List (Option Pruning)) : Type 0 where
   pub even : length new ≡ length old
   pub slots : length left ≡ length first
@@ -72,7 +72,7 @@ none_pruned h tables prunings = record {
   wait = λ t l. refl;
 }
 
--- of the next table it is known where its closed versions stand
+-- the next table has the right new indexes for its closed versions
 pub made_here : (h h' : ℤ) (n : ℕ) (old now : List TableModel) (first left : List (Option Pruning)) (x d : TableModel)
     (p r : Option Pruning) → h' ≡ h → AreMade h old first → HavePruned h' n old now first left → n < length now
     → x ≡ get_or now n d → p ≡ get_or left n r → n < length left → IsPruning h' x.closed p
@@ -84,7 +84,7 @@ made_here h h' n old now first left x d p r at made k l read take m =
     (sym (take ∙ get_or_default left n r None m ∙ k.wait n (omega arith)))
     (made.each n (let e = k.even in omega (arith, e, l)))))
 
--- there is a place for each
+-- the list of new indexes has an element for each table
 pub slot_each : (h h' : ℤ) (n : ℕ) (old now : List TableModel) (first left : List (Option Pruning))
     → AreMade h old first → HavePruned h' n old now first left → n < length now → n < length left
 slot_each h h' n old now first left made k l =
@@ -133,7 +133,7 @@ pub none_open : (working : Option ℤ) → IsNone working → working ≡ None
 none_open None e = refl
 none_open (Some m) e = cc
 
--- without a transaction
+-- without a transaction, under an equal argument
 pub resting : {places : List TableSlot} {tables : List TableModel} {touched : List ℕ} {last : Option ℤ}
     (working : Option ℤ) → working ≡ None → IsOrderly places tables touched working last
     → IsOrderly places tables touched None last

@@ -1,4 +1,4 @@
--- A table put where another stood, or behind the last.
+-- A table put in place of another, or after the last.
 use Rattle.std.proofs.Common.{◌≡◌, ◌≢◌, ℕ, zero, suc, ◌<◌, false, List, [], ◌∷◌, ◌++◌, get_or, set, length, refl}
 use Rattle.std.proofs.Common.{ap, ◌∙◌, arith}
 use Rattle.std.specs.Prelude.{nat_eq}

@@ -1,4 +1,4 @@
--- What a question at a pin asks of a store as it stands.
+-- The store query for a query at a pin.
 use Rattle.std.proofs.Common.{◌≡◌, false, refl, sym, ap, ◌∙◌, arith, inl, inr}
 use Rattle.std.specs.Prelude.{◌⊎◌, ℤ, ◌≤ℤ◌, ◌<ℤ◌, if◌then◌else◌}
 use Rattle.std.proofs.lemmas.Int.{ints}
@@ -11,7 +11,7 @@ use Rattle.tql_store.specs.Pinned.{capped, AsksAt}
 use Rattle.tql_value.specs.declared.when.When.{When}
 use Rattle.tql_value.specs.declared.when.When.TheVariants.{FromTo, Between}
 
--- nothing is found where nothing is shown
+-- an empty version is never selected
 pub nothing_found : (when : When) → is_answer when nothing ≡ false
 nothing_found when = refl
 
@@ -19,7 +19,7 @@ nothing_found when = refl
 abbrev ending : Stamped → ℤ → Version
 ending r e = record { row = r; end = e }
 
--- the three ways in which a version lies to a pin: it ended later, had ended, or had not begun
+-- the three cases of a version at a pin: it ended later, it had ended, or it had not begun
 record Asks (p : ℤ) (when other : When) : Type 0 where
   pub open_then : (r : Stamped) (e : ℤ) → e ≤ℤ high → r.start ≤ℤ p → p <ℤ e
       → is_answer when (ending r high) ≡ is_answer other (ending r e)
@@ -43,7 +43,7 @@ asks p when other a = record {
   ];
 }
 
--- a question that finds nothing of any version
+-- a query that selects no version
 none-asked : (p : ℤ) (when : When)
     → ((r : Stamped) (e : ℤ) → e ≤ℤ high → is_answer when (ending r e) ≡ false) → AsksAt p when when
 none-asked p when none = asks p when when (record {
@@ -54,7 +54,7 @@ none-asked p when none = asks p when when (record {
 
 -- ---- ranges
 
--- one that begins after a pin, and does not rise or begins no earlier than the highest moment, asks for nothing
+-- a range that begins after a pin selects nothing if it is empty or does not begin before the highest moment
 pub range-none : (p a b : ℤ) → p <ℤ a → (b ≤ℤ a) ⊎ (high ≤ℤ a) → AsksAt p (FromTo a b) (FromTo a b)
 range-none p a b later empty = none-asked p (FromTo a b) (λ r e top. either empty r e top)
   where
@@ -71,7 +71,7 @@ span-none p a b later empty = none-asked p (Between a b) (λ r e top. either emp
     either (inl l) r e top = grind (arith, ints)
     either (inr l) r e top = grind (arith, ints)
 
--- one that begins by a pin and ends after it goes up to it
+-- a range that begins by a pin and ends after it is cut at the pin
 pub range-cut : (p a b : ℤ) → a ≤ℤ p → p <ℤ b → AsksAt p (FromTo a b) (Between a p)
 range-cut p a b from to = asks p (FromTo a b) (Between a p) (record {
   open_then = λ r e top began l. grind (arith, ints);
@@ -86,7 +86,7 @@ span-cut p a b from to = asks p (Between a b) (Between a p) (record {
   unborn_then = λ r e top l. grind (arith, ints);
 })
 
--- one that ends by then is asked as it is
+-- a range that ends by the pin does not change
 pub range-stays : (p a b : ℤ) → a ≤ℤ p → b ≤ℤ p → AsksAt p (FromTo a b) (FromTo a b)
 range-stays p a b from to = asks p (FromTo a b) (FromTo a b) (record {
   open_then = λ r e top began l. grind (arith, ints);

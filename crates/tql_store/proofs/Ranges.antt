@@ -1,4 +1,4 @@
--- What the definitions find over a range is what the versions say.
+-- What the definitions find over a range equals what the versions give.
 use Rattle.std.proofs.Common.{◌≡◌, ℕ, ◌+◌, Bool, true, false, cond, List, [], ◌∷◌, ◌++◌, filter, refl, sym, ap, ◌∙◌}
 use Rattle.std.proofs.Common.{arith, inl, inr}
 use Rattle.std.specs.Prelude.{◌⊎◌, not, ◌&&◌, ℤ, ◌≤ℤ◌, ◌<ℤ◌, int_lt, ltb, if◌then◌else◌, Option}
@@ -13,11 +13,11 @@ use Rattle.tql_spec.specs.History.{TableEntry, has_version, with_end, completed,
 use Rattle.tql_store.proofs.Readings.{beyond, under, stands_tells, sum-picked, Known, known_at, known_before}
 use Rattle.tql_store.specs.Stands.{stands_at, Within, Fits, Told, Proper}
 
--- whether a version has a point of the range below a moment
+-- whether a version shares a point with the range, and both start before a moment
 abbrev pub reached : ℤ → ℤ → ℤ → Version → Bool
 reached a b until v = meets a b v.row.start v.end && (int_lt v.row.start until && int_lt a until)
 
--- what that says
+-- the same as inequalities
 pub record Reaches (a b until start end : ℤ) : Type 0 where
   pub range : a <ℤ b
   pub version : start <ℤ end
@@ -72,7 +72,7 @@ meets-says {a} {b} {s} {e} h =
     let m1 = both (int_lt s b) (int_lt a e) m.1 in
     record { range = is_lt m0.0; version = is_lt m0.1; starts = is_lt m1.0; stops = is_lt m1.1 }
 
--- what some versions have of the rows, where they are those that pass a test
+-- whether the versions found include one of a row, if they are the rows that pass a test
 has_version-is : (rows : List Stamped) (ends : Stamped → ℤ) {found : List Version} (test : Version → Bool)
     → SameBag found (filter test (completed ends rows)) → (r : Stamped) → In r rows
     → has_version found r ≡ test (with_end ends r)
@@ -82,7 +82,7 @@ has_version-is rows ends {found} test same r m =
     ∙ sum-picked test ends (λ v. cond (same_stamped r v.row) 1 0) rows)
     ∙ picked (λ x. test (with_end ends x)) r rows m
 
--- one row's part in both: what is fresh here and what was found earlier
+-- the share of one row in both parts: what is new here and what was found earlier
 both_parts : (st had now : Bool) (x y : ℕ) → (st ≡ true → x ≡ y) → (had ≡ true → now ≡ true)
     → (st ≡ true → now ≡ true) → (now ≡ true → had ≡ false → st ≡ true)
     → cond st (cond (not had) x 0) 0 + cond had y 0 ≡ cond now y 0
@@ -121,7 +121,7 @@ found_more rows ends known until a b e earlier proper rises f k induct = by_bool
           from = omega (arith, ints);
         })
 
-    -- a row that stands here and was not found earlier
+    -- a row that exists here and was not found earlier
     only : meets a b e.moment until ≡ true → (r : Stamped) → In r rows → stands_at ends e.moment r ≡ true
         → reached a b until (with_end ends r) ≡ true
     only m r within t = elim (stands_tells ends e.moment r) as (λ x. reached a b until (with_end ends r) ≡ true) [
@@ -144,7 +144,7 @@ found_more rows ends known until a b e earlier proper rises f k induct = by_bool
       | inr s ↦ let u = s.0 in cc
     ]
 
-    -- a row that is found, and not earlier, stands here, and this copy is met
+    -- a row that is found, but not earlier, exists here, and the range meets this copy
     new : (r : Stamped) → In r rows → reached a b until (with_end ends r) ≡ true
         → reached a b e.moment (with_end ends r) ≡ false
         → (meets a b e.moment until ≡ true) × (stands_at ends e.moment r ≡ true)
@@ -233,7 +233,7 @@ found_more rows ends known until a b e earlier proper rises f k induct = by_bool
           ∙ sym (sum-picked (reached a b until) ends w rows);
     })
 
--- a copy that stands until the range at most is not met, nor an older one
+-- if the newest copy lasts only until the start of the range, or less, the range meets no copy
 pub found-late : (horizon : Option ℤ) (rows : List Stamped) (ends known : Stamped
     → ℤ) (until a b : ℤ) (entries : List TableEntry) → Told horizon rows ends until entries → until ≤ℤ a
     → found_from until known a b entries ≡ []
@@ -247,7 +247,7 @@ found-late horizon rows ends known until a b (e ∷ older) told late =
     unmet true q = let h : Meets a b e.moment until = meets-says q in absurd (let x = h.stops in omega (arith, ints))
     unmet false q = q
 
--- no version has a point of the range below such a moment
+-- if this holds of no row, no version is found
 none-reached : (rows : List Stamped) (ends : Stamped → ℤ) (until a b : ℤ)
     → ((r : Stamped) → In r rows → Reaches a b until r.start (ends r) → ⊥)
     → SameBag [] (filter (reached a b until) (completed ends rows))

@@ -1,4 +1,4 @@
--- What the definitions find in the copies is what the versions say.
+-- What the definitions find in the copies equals what the versions give.
 use Rattle.std.proofs.Common.{◌≡◌, ℕ, Bool, true, false, cond, List, [], ◌∷◌, filter, refl, sym, ap, ◌∙◌, arith, inl}
 use Rattle.std.proofs.Common.{inr}
 use Rattle.std.specs.Prelude.{◌⊎◌, ◌&&◌, ℤ, ◌≤ℤ◌, ◌<ℤ◌, int_lt, ltb, Option, Some, None}
@@ -14,21 +14,21 @@ use Rattle.tql_store.specs.Stands.{stands_at, Within, Fits, Told}
 
 -- ---- horizons
 
--- what stands beyond the horizon is told of
+-- a copy that lasts beyond the horizon fits the rows
 pub beyond : (horizon : Option ℤ) (until : ℤ) {P : Type 0} → Under horizon until → Past horizon until ⊎ P → P
 beyond None until u (inl a) = absurd a
 beyond (Some h) until u (inl a) = absurd (omega (arith, ints))
 beyond None until u (inr b) = b
 beyond (Some h) until u (inr b) = b
 
--- a moment that is not before the horizon is before another one
+-- if a moment is within the horizon, a later one is after it
 pub under : (horizon : Option ℤ) {m until : ℤ} → Within horizon m → m <ℤ until → Under horizon until
 under None w h = w
 under (Some g) w h = omega (arith, ints)
 
 -- ---- rows
 
--- whether a row stands, by its ends
+-- whether a row exists at a moment, as inequalities
 pub stands_tells : (ends : Stamped → ℤ) (m : ℤ) (r : Stamped)
     → ((stands_at ends m r ≡ true) × (r.start ≤ℤ m) × (m <ℤ ends r)) ⊎
     ((stands_at ends m r ≡ false) × ((m <ℤ r.start) ⊎ (ends r ≤ℤ m)))
@@ -45,7 +45,7 @@ pub sum-picked : (p : Version → Bool) (ends : Stamped → ℤ) (w : Version �
     → sum_by w (filter p (completed ends rows)) ≡ sum_by (λ r. cond (p (with_end ends r)) (w (with_end ends r)) 0) rows
 sum-picked p ends w rows = sum-filter p w (completed ends rows) ∙ sum-map (with_end ends) (λ v. cond (p v) (w v) 0) rows
 
--- a copy has a row where it stands
+-- a copy has a row exactly if the row exists at its moment
 pub has_is : {rows : List Stamped} {ends : Stamped
     → ℤ} {e : TableEntry} {until : ℤ} (f : Fits rows ends e until) (r : Stamped) → In r rows
     → has_row e.rows r ≡ stands_at ends e.moment r
@@ -55,7 +55,7 @@ has_is {rows} {ends} {e} f r m =
     ∙ sum-filter (stands_at ends e.moment) (λ x. cond (same_stamped r x) 1 0) rows)
     ∙ picked (stands_at ends e.moment) r rows m
 
--- the ends that are known are right where they are asked for
+-- the known ends are right where they are needed
 pub record Known (rows : List Stamped) (ends known : Stamped → ℤ) (until : ℤ) : Type 0 where
   pub agrees : (r : Stamped) → In r rows → r.start <ℤ until → until ≤ℤ ends r → known r ≡ ends r
 
@@ -83,7 +83,7 @@ cond_same : (b c : Bool) (x y : ℕ) → b ≡ c → (c ≡ true → x ≡ y) �
 cond_same b true x y e h = ap (λ (a : Bool). cond a x 0) e ∙ h refl
 cond_same b false x y e h = ap (λ (a : Bool). cond a x 0) e
 
--- nothing happens while a copy stands
+-- the same rows exist as long as a copy lasts
 pub stands_still : {rows : List Stamped} {ends : Stamped → ℤ} {e : TableEntry} {until : ℤ} → Fits rows ends e until
     → (m : ℤ) → e.moment ≤ℤ m → m <ℤ until → (r : Stamped) → In r rows → stands_at ends e.moment r ≡ stands_at ends m r
 stands_still {rows} {ends} {e} {until} f m from before r within =

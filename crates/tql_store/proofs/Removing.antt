@@ -1,4 +1,4 @@
--- The versions that a change of a table takes away, named by the store's ids.
+-- The versions that a change of a table removes, given by the ids of the store.
 use Rattle.std.proofs.Common.{◌≡◌, ◌≢◌, ℕ, zero, suc, ◌+◌, ◌<◌, ◌≤◌, Bool, true, false, cond, List, [], ◌∷◌, ◌++◌}
 use Rattle.std.proofs.Common.{map, filter, length, refl, sym, ap, ◌∙◌, arith, inl, inr}
 use Rattle.std.specs.Prelude.{ℤ, ◌<ℤ◌, ◌&&◌, ◌||◌, All, Contains, IsTrue, count_by, nat_eq, nat_lt, slice_get}
@@ -24,7 +24,7 @@ use Rattle.tql_store.specs.StoreModel.{is_open, is_among}
 abbrev pub at : List Version → ℕ → Version
 at vs k = slice_index_or vs k nothing
 
--- ---- ids that are listed
+-- ---- listed ids
 
 among-at : (k : ℕ) (is : List ℕ) (j : ℕ) → j < length is → slice_index_or is j k ≡ k → is_among k is ≡ true
 among-at k [] j l e = absurd (omega (arith, l))
@@ -48,7 +48,7 @@ among-listed k (i ∷ is) e = by_bool (nat_eq k i)
 away-among : (k : ℕ) (is : List ℕ) → (Contains is k → ⊥) → is_among k is ≡ false
 away-among k is none = by_bool (is_among k is) (λ e. absurd (none (among-listed k is e))) (λ e. e)
 
--- ---- versions by their places
+-- ---- versions by their positions
 
 pub record OpenAt (vs : List Version) (i : ℕ) : Type 0 where
   pub within : i < length vs
@@ -67,7 +67,7 @@ in-at [] i l = absurd (omega (arith, l))
 in-at (v ∷ vs) zero l = inl refl
 in-at (v ∷ vs) (suc i) l = inr (in-at vs i (omega (arith, l)))
 
--- one that is not closed stands before those that are
+-- a version that is not closed comes before the closed ones
 before-closed : (cs ds : List Version) (i : ℕ) → i < length (cs ++ ds)
     → ((v : Version) → In v ds → is_current v ≡ false) → is_current (at (cs ++ ds) i) ≡ true → i < length cs
 before-closed [] ds i l h e = absurd (let f = sym e ∙ h (at ds i) (in-at ds i l) in cc)
@@ -92,7 +92,7 @@ closed-past : (m : ℤ) (h : rows.TableModel) → InTurn m h → (v : Version) �
 closed-past m h t v i = let p = t.past v i in let b = t.below in let l : v.end <ℤ high =
     omega (arith, ints, p.1, b) in eq_false l
 
--- ---- they may be taken away
+-- ---- they may be removed
 
 pub removable-rows : (m : ℤ) (h : rows.TableModel) (removed : List ℕ) → InTurn m h
     → All (λ id. IsTrue (is_open (slice_get (versions h) id))) removed
@@ -104,7 +104,7 @@ removable-rows m h removed t all once = record {
   once = once;
 }
 
--- a version of the table is alive if it is current
+-- a current version of the table is non-empty
 alive-current : (m : ℤ) (h : rows.TableModel) → InTurn m h → (k : ℕ) → k < length h.current
     → is_current (at h.current k) ≡ true → alive (at h.current k) ≡ true
 alive-current m h t k l e =
@@ -121,7 +121,7 @@ alive-current m h t k l e =
     not_told : (i n : ℕ) → nat_lt i n ≡ false → n ≤ i
     not_told i n e = grind (arith, nat_tests)
 
--- what the store judges, its table does
+-- the ids that satisfy `Judged` in the store satisfy `IsJudged` in its table
 pub judged-rows : (m : ℤ) (h : rows.TableModel) (gone : Stamped → Bool) (removed : List ℕ) → InTurn m h
     → ((id : ℕ) (v : Version) → slice_get (versions h) id ≡ Some v
     → is_among id removed ≡ (alive v && (is_current v && gone v.row))) → IsJudged gone removed h
@@ -138,7 +138,7 @@ judged-rows m h gone removed t j k l =
         (alive-current m h t k l c)) ∙ e)
         (λ c. ap (λ (b : Bool). b && gone (at h.current k).row) c)
 
--- ---- how many versions are current
+-- ---- the number of current versions
 
 abbrev pub shows : Version → ℕ
 shows v = cond {A = ℕ} (is_current v) 1 0
@@ -213,7 +213,7 @@ count-fresh m cells [] = refl
 count-fresh m cells (r ∷ rs) = let k = count-fresh m cells rs in let one : shows (fresh m (cells r)) ≡ 1 =
     refl in omega (arith, k, one, sum_by-cons shows (fresh m (cells r)) (map (λ x. fresh m (cells x)) rs))
 
--- what goes and what comes make the difference
+-- the count of current versions changes by the rows added and removed
 pub counted-rows : {R : Type 0} (m : ℤ) (cells : R → List Datum) (rs : List R) (removed : List ℕ)
     (h n : rows.TableModel)
     → InTurn m h → rows.AreRemovable h removed

@@ -1,4 +1,4 @@
--- The versions of rows that pass a test.
+-- Versions whose rows pass a test.
 use Rattle.std.proofs.Common.{◌≡◌, ℕ, Bool, true, false, cond, List, [], ◌∷◌, All, map, filter, None, refl, ap, sym}
 use Rattle.std.proofs.Common.{subst}
 use Rattle.std.specs.Prelude.{◌&&◌, ◌||◌, count_by, nat_eq, if◌then◌else◌, IfOk, Result, Ok, Err}
@@ -18,7 +18,7 @@ use Rattle.tql_store.specs.Represents.{Answers, AnswersBy}
 use Rattle.tql_store.specs.StoreModel.{StoreModel, is_versioned, live}
 use Rattle.tql_store.specs.Views.{IsFound, Names, NamesOnce}
 
--- two tests, one after the other
+-- two tests, one after another
 pub filter_both : {X : Type 0} (p q : X → Bool) (xs : List X) → filter (λ x. p x && q x) xs ≡ filter q (filter p xs)
 filter_both p q [] = refl
 filter_both p q (x ∷ xs) = by_bool (p x)
@@ -36,7 +36,7 @@ answers-by h t when test found versioned e = λ ask copies working r.
     (answers-found h t when (filter (asked when) (live h t)) versioned (same-refl (filter (asked when) (live h t)))
     ask copies working r))
 
--- ---- where none are sought
+-- ---- without a lookup
 
 and_true : (b : Bool) → (b && true) ≡ b
 and_true true = refl
@@ -52,7 +52,7 @@ filter_true : {X : Type 0} (xs : List X) → filter (λ (x : X). true) xs ≡ xs
 filter_true [] = refl
 filter_true (x ∷ xs) = ap (λ ys. x ∷ ys) (filter_true xs)
 
--- versions that are asked for are those that are looked at, where none are sought
+-- without a lookup, the versions that a query selects satisfy `IsFound`
 looked_at_each : (h : StoreModel) (t : ℕ) (when : When) (found : List code.Version)
     → SameBag (map version_shown found) (filter (asked when) (live h t)) → All (Names h t) found
     → NamesOnce h t (asked when) found → Answers h t (when_of when) (map version_shown found)
@@ -67,7 +67,7 @@ looked_at_each h t when found versions ids once answers = record {
       (sym (filter_true _)) (answers ask copies working r);
 }
 
--- so of a result
+-- the same for a result
 pub looked_at_all : {X E : Type 0} (h : StoreModel) (t : ℕ) (when : When) (items : X → List code.Version)
     (result : Result X E)
     → IfOk result (λ x. SameBag (map version_shown (items x)) (filter (asked when) (live h t)))
@@ -78,7 +78,7 @@ looked_at_all h t when items (Ok x) versions ids once answers =
     looked_at_each h t when (items x) versions ids once answers
 looked_at_all h t when items (Err e) versions ids once answers = tt
 
--- and where none are sought, those that are looked at are all that are asked for
+-- and conversely, versions that satisfy it are all that the query selects
 pub all-versions : (h : StoreModel) (t : ℕ) (when : When) (found : List code.Version)
     → IsFound h t when (is_looked_at None) found
     → SameBag (map version_shown found) (filter (asked when) (live h t))

@@ -1,5 +1,4 @@
--- A store stands for the copies through beginnings, changes, commits and rollbacks, and its readings find what they
--- have.
+-- A store represents the copies through beginnings, changes, commits and rollbacks, and its readings agree with them.
 use Rattle.std.proofs.Common.{◌≡◌, ℕ, Bool, true, false, filter, List, [], ◌∷◌, arith, inl, inr, refl, sym, ap, subst}
 use Rattle.std.proofs.Common.{◌∙◌}
 use Rattle.std.specs.Prelude.{ℤ, pos, ◌+ℤ◌, ◌<ℤ◌, ◌≤ℤ◌, ◌&&◌, ◌||◌, cond, int_lt, int_le, nat_eq, slice_index_or}
@@ -41,12 +40,12 @@ same-list {X} {xs} {ys} e = subst (SameBag xs) e (same-refl xs)
 
 -- ---- horizons
 
--- the horizon of a table that keeps its history, and of a number at which none stands
+-- the horizon of a table with history, or of a free number
 pub kept_horizon : (places : List TableSlot) (last : Option ℤ) (k : ℤ) (entries : List TableEntry) (t : ℕ)
     → is_brief (slot_at places t) ≡ false → horizon_of places last k entries t ≡ kept_of k entries
 kept_horizon places last k entries t e = ap (λ (b : Bool). if b then last else kept_of k entries) e
 
--- of one that keeps its last copy alone
+-- the horizon of a table that keeps only its last copy
 pub last_horizon : (places : List TableSlot) (last : Option ℤ) (k : ℤ) (entries : List TableEntry) (t : ℕ)
     → is_brief (slot_at places t) ≡ true → horizon_of places last k entries t ≡ last
 last_horizon places last k entries t e = ap (λ (b : Bool). if b then last else kept_of k entries) e
@@ -59,7 +58,7 @@ kept_not_brief Unversioned e = cc
 not_before : (m k : ℤ) → int_lt m k ≡ false → k ≤ℤ m
 not_before m k e = elim (lt_tells m k) [ inl s ↦ absurd (let f = s.0 in cc) | inr s ↦ s.1 ]
 
--- every moment that is not before the horizon is within what is kept of a versioned table
+-- a moment that is not before the horizon is within what a versioned table keeps
 pub versioned-within : (h : StoreModel) (entries : List TableEntry) (t : ℕ) (m : ℤ) → is_versioned h t ≡ true
     → int_lt m h.horizon ≡ false → Within (horizon_of h.tables h.last h.horizon entries t) m
 versioned-within h entries t m e ask =
@@ -69,7 +68,7 @@ versioned-within h entries t m e ask =
 
 -- ---- transactions
 
--- what is known of a store in a transaction
+-- each table of a store in a transaction
 in_turn : (old : StoreModel) (copies : Copies) (working : Working) (m : ℤ) → old.working ≡ Some m
     → Represents old copies working → (t : ℕ)
     → InTransaction (horizon_of old.tables old.last old.horizon (copies t) t) (live old t)
@@ -78,7 +77,7 @@ in_turn old copies working m e r t =
     subst (λ (o : Option ℤ). StandsWith (horizon_of old.tables old.last old.horizon (copies t) t) o (live old t)
     (copies t) (working t)) e (r.stands t)
 
--- what is known of a store without one
+-- each table of a store without a transaction
 pub at_rest : (old : StoreModel) (copies : Copies) (working : Working) → old.working ≡ None
     → Represents old copies working
     → (t : ℕ) → StandsFor (horizon_of old.tables old.last old.horizon (copies t) t) (live old t) (copies t)
@@ -86,7 +85,7 @@ at_rest old copies working e r t =
     subst (λ (o : Option ℤ). StandsWith (horizon_of old.tables old.last old.horizon (copies t) t) o (live old t)
     (copies t) (working t)) e (r.stands t)
 
--- a store stands for copies by its parts
+-- a store represents copies, from its parts
 pub of_parts : (versions : List Version) (entries : List TableEntry) (rows : List Stamped) {places : List TableSlot}
     {last o : Option ℤ} {k : ℤ} (h : StoreModel) → h.tables ≡ places → h.last ≡ last → h.horizon ≡ k
     → h.working ≡ o → (t : ℕ) → StandsWith (horizon_of places last k entries t) o versions entries rows
@@ -148,7 +147,7 @@ rollback-restores old new tables closed last reach versions = λ copies working 
       (rollback-law _ (live old t) (live new t) _ _ (in_turn old copies working m is r t) (versions t m is));
 }
 
--- the horizon lies before a moment that is later than the last commit
+-- the horizon is before a moment later than the last commit
 horizon_under : (places : List TableSlot) (last : Option ℤ) (k : ℤ) (entries : List TableEntry) (t : ℕ) (m : ℤ)
     → Under last m → Under (kept_of k entries) m → Under (horizon_of places last k entries t) m
 horizon_under places last k entries t m later early = by_bool (is_brief (slot_at places t))
@@ -172,7 +171,7 @@ begin-copies m old new is later below tables opened last reach versions = λ cop
 
 -- ---- readings
 
--- the versions stand for the copies that queries see
+-- the versions represent the copies that queries see
 stands_seen : (horizon o : Option ℤ) (versions : List Version) (copies : Copies) (working : Working) (t : ℕ)
     → StandsWith horizon o versions (copies t) (working t) → StandsFor horizon versions (seen_by o copies working t)
 stands_seen horizon None versions copies working t s = s
@@ -250,9 +249,9 @@ change-replaces t removed added old new e = λ copies working m gone is j r. rec
         apply-law _ m gone added (live old t) _ (working t) _ (copies t) (turn t) bag
         (same-list (ap (λ (b : Bool). if b then rows_after m gone added (working t) else working t) self)))
 
--- ---- the ranges as the store tests them
+-- ---- ranges as the store tests them
 
--- all of them hold a moment
+-- filtering twice by the same test
 filter-twice : (p : Version → Bool) (vs : List Version) → filter p (filter p vs) ≡ filter p vs
 filter-twice p [] = refl
 filter-twice p (v ∷ vs) = by_bool (p v)
@@ -262,7 +261,7 @@ filter-twice p (v ∷ vs) = by_bool (p v)
 alive-live : (h : StoreModel) (t : ℕ) → filter alive (live h t) ≡ live h t
 alive-live h t = filter-twice alive (slice_index_or h.versions t [])
 
--- tests that agree on what is alive
+-- tests that agree on non-empty versions
 filter-alive : (p q : Version → Bool) → ((v : Version) → alive v ≡ true → p v ≡ q v) → (vs : List Version)
     → filter p (filter alive vs) ≡ filter q (filter alive vs)
 filter-alive p q h [] = refl
@@ -304,7 +303,7 @@ answers-between h t a b found kept e = answers-from_to h t a (b +ℤ pos 1) foun
     ∙ ap (λ c. int_lt a (b +ℤ pos 1) && (c && int_lt a v.end)) (below_next v.row.start b)
     ∙ as_meets a (b +ℤ pos 1) v l) h t)))
 
--- what is asked for is what the definitions find
+-- the selected versions are the ones that the definitions find
 pub answers-found : (h : StoreModel) (t : ℕ) (when : When) (found : List Version)
     → (is_now (when_of when) || is_versioned h t) ≡ true → SameBag found (filter (asked when) (live h t))
     → Answers h t (when_of when) found

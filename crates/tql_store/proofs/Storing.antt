@@ -1,4 +1,4 @@
--- What a store shows of its tables, and that it stays orderly through new tables, dropped ones and changes.
+-- What a store shows of its tables, and that its invariant holds after tables are added, dropped and changed.
 use Rattle.std.proofs.Common.{◌≡◌, ℕ, suc, ◌+◌, ◌≤◌, Bool, true, false, List, [], ◌∷◌, ◌++◌, map, filter}
 use Rattle.std.proofs.Common.{length, refl, sym, ap, subst, ◌∙◌, arith}
 use Rattle.std.specs.Prelude.{ℤ, All, IsTrue, nat_eq, slice_get, slice_index_or, Option, Some}
@@ -41,7 +41,7 @@ shown places tables working last horizon = record {
   horizon = horizon;
 }
 
--- as the code tells it
+-- the same, as the code states it
 pub shows : (places : List TableSlot) (tables : List rows.TableModel) (working last : Option ℤ) (horizon : ℤ)
     (h : StoreModel)
     → shown places tables working last horizon ≡ h → shown places tables working last horizon ≡ h
@@ -58,9 +58,9 @@ pub live-of : {places : List TableSlot} {working last : Option ℤ} {horizon : �
     (h : StoreModel) (t : ℕ) → shown places tables working last horizon ≡ h → live h t ≡ rows.live (table_at tables t)
 live-of tables h t is = ap (filter alive) (versions-of tables h t (table_at tables t) is refl)
 
--- ---- what the readings of its tables rest on
+-- ---- what the readings of its tables need
 
--- the index of a table holds its closed versions, and these have ended
+-- the index of a table has its closed versions, and these have ended
 pub record IsReadable (h : rows.TableModel) : Type 0 where
   pub rest : List Entry
   pub indexed : IsIndexed h rest
@@ -79,12 +79,12 @@ readable-at places tables touched (Some m) last o t = record {
   ended = λ v i. let p = (o.ready.turn t).past v i in let b = o.ready.below in omega (arith, ints, p.1, b);
 }
 
--- a table as it is read at its number: with the versions that the store shows
+-- a table with the versions that the store shows at its number
 pub record IsRead (h : StoreModel) (t : ℕ) (x : rows.TableModel) : Type 0 where
   pub shown : slice_index_or h.versions t [] ≡ versions x
   pub readable : IsReadable x
 
--- ---- tables that come and go
+-- ---- adding and dropping tables
 
 pub put-orderly : (keeps : Bool) (p : TableSlot) (n : ℕ) (places next : List TableSlot) (old new : List rows.TableModel)
     (touched : List ℕ) (working last : Option ℤ) (x : rows.TableModel) → IsOrderly places old touched working last
@@ -132,7 +132,7 @@ put-orderly keeps p n places next old new touched working last x o match takes e
       apart = r.apart;
     }
 
--- of the table that is put no version is there
+-- the new table at a number has only empty versions, and the others do not change
 pub put-live : (keeps : Bool) (n : ℕ) (old new : List rows.TableModel) (x : rows.TableModel) → IsPut n x old new
     → x ≡ empty keeps → (t : ℕ) → rows.live (table_at new t) ≡ (if nat_eq t n then [] else rows.live (table_at old t))
 put-live keeps n old new x put is t = by_bool (nat_eq t n)
@@ -140,7 +140,7 @@ put-live keeps n old new x put is t = by_bool (nat_eq t n)
     ∙ sym (ap (λ (b : Bool). if b then [] else rows.live (table_at old t)) e))
     (λ e. ap rows.live (put.others t e) ∙ sym (ap (λ (b : Bool). if b then [] else rows.live (table_at old t)) e))
 
--- where none was, none is
+-- if the old one had only empty versions, the non-empty versions of no table change
 pub added-live : (n : ℕ) (old new : List rows.TableModel) → rows.live (table_at old n) ≡ []
     → ((t : ℕ) → rows.live (table_at new t) ≡ (if nat_eq t n then [] else rows.live (table_at old t))) → (t : ℕ)
     → rows.live (table_at new t) ≡ rows.live (table_at old t)
@@ -204,7 +204,7 @@ undone-versions m horizon working last places old new touched h g at o e is now 
 
 -- ---- changes
 
--- what the store's contract asks is what its table asks
+-- ids that are removable in the store are removable in its table
 pub removable-at : (m horizon : ℤ) (working last : Option ℤ) (places : List TableSlot) (tables : List rows.TableModel)
     (touched : List ℕ) (h : StoreModel) (t : ℕ) (removed : List ℕ) → working ≡ Some m
     → IsOrderly places tables touched working last → shown places tables working last horizon ≡ h
@@ -260,7 +260,7 @@ replaces-at {R} cells added m horizon working last places old new touched h g n 
     length-cells [] = refl
     length-cells (x ∷ xs) = ap suc (length-cells xs)
 
--- ---- what a store shows of tables that come and go
+-- ---- what a store shows after tables are added and dropped
 
 pub kept_for : (b : Bool) → b ≡ is_kept (place_for b)
 kept_for true = refl

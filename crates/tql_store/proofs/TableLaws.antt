@@ -1,4 +1,4 @@
--- A store stands for the copies through a new table and a dropped one.
+-- A store represents the copies after a table is added or dropped.
 use Rattle.std.proofs.Common.{◌≡◌, ℕ, Bool, true, false, List, [], ◌∷◌, arith, inl, inr, refl, sym, ap, subst, ◌∙◌}
 use Rattle.std.specs.Prelude.{ℤ, ◌<ℤ◌, nat_eq, if◌then◌else◌, Option, Some, None}
 use Rattle.std.proofs.lemmas.Bool.Decides.{nat_tests}
@@ -28,7 +28,7 @@ decided u t e = grind (arith, nat_tests)
 
 -- ---- a new table
 
--- the newest copy lies below where the copies end
+-- the newest copy is earlier than the moment until which it lasts
 newest-under : (horizon : Option ℤ) (rows : List Stamped) (ends : Stamped
     → ℤ) (until : ℤ) (entries : List TableEntry) → Told horizon rows ends until entries → Under (newest entries) until
 newest-under horizon rows ends until [] told = tt
@@ -38,7 +38,7 @@ under_more : (last : Option ℤ) (m n : ℤ) → Under last m → m <ℤ n → U
 under_more None m n u h = tt
 under_more (Some l) m n u h = omega (arith, ints)
 
--- what stands for copies as far as they are kept does so from the last commit on
+-- versions that represent the copies as far as these are kept also do so from the last commit on
 from_last : (k : ℤ) (last o : Option ℤ) (versions : List Version) (entries : List TableEntry) (rows : List Stamped)
     → newest entries ≡ last → StandsWith (kept_of k entries) o versions entries rows
     → StandsWith last o versions entries rows
@@ -59,7 +59,7 @@ from_last k last (Some m) versions entries rows e s =
       before = stands-later (kept_of k entries) last _ entries far top s.before;
     }
 
--- a table that is versioned or not
+-- a versioned table or an unversioned one
 from_either : (b : Bool) (k : ℤ) (last o : Option ℤ) (versions : List Version) (entries : List TableEntry)
     (rows : List Stamped) → newest entries ≡ last → StandsWith (kept_of k entries) o versions entries rows
     → StandsWith (if b then last else kept_of k entries) o versions entries rows
@@ -114,7 +114,7 @@ told-emptied horizon rows ends until (e ∷ older) told = (
   ),
 )
 
--- no version stands for copies without rows
+-- the empty list of versions represents copies without rows
 pub none-stands : (k : ℤ) (entries : List TableEntry) → Told None [] still high (emptied entries)
     → StandsFor (kept_of k (emptied entries)) [] (emptied entries)
 none-stands k entries told =
@@ -170,7 +170,7 @@ drop-empties t old new closed takes working_same last reach versions = λ copies
         rw (other, horizon_at t Free old.tables new.tables old.last old.horizon (copies u) u takes false other)
         (same-stands (left u false other) s)
 
--- ---- copies and working copies that are one
+-- ---- equal copies and working copies
 
 same_first : {horizon : Option ℤ} {versions : List Version} (m : ℤ) (rows others : List Stamped)
     (older : List TableEntry) → SameBag others rows
@@ -204,7 +204,7 @@ same_with horizon (Some m) versions entries rows others h s = record {
   before = s.before;
 }
 
--- a store stands for copies also where they are given in another way, and for working rows in another order
+-- a store also represents equal copies, and working rows in another order
 pub represents-same : (h : StoreModel) (copies others : Copies) (working changed : Working)
     → ((t : ℕ) → copies t ≡ others t) → ((t : ℕ) → SameBag (changed t) (working t)) → Represents h copies working
     → Represents h others changed

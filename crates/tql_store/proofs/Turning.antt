@@ -1,4 +1,5 @@
--- A store stays orderly where a table's rows change in the open transaction, and where all tables' transaction ends.
+-- The invariant of a store holds after a change of a table in the open transaction, and after the end of the
+-- transaction.
 use Rattle.std.proofs.Common.{◌≡◌, ◌≢◌, ℕ, suc, ◌+◌, ◌<◌, Bool, true, false, cond, List, [], ◌∷◌, ◌++◌}
 use Rattle.std.proofs.Common.{filter, length, refl, sym, ap, subst, ◌∙◌, arith, inl, inr}
 use Rattle.std.specs.Prelude.{ℤ, ◌<ℤ◌, ◌≤ℤ◌, int_lt, nat_eq, slice_index_or, slice_set, Option, Some, None}
@@ -28,7 +29,7 @@ use Rattle.tql_store.specs.declared.tables.TableSlot.TheVariants.{Free, Versione
 
 -- ---- tables at rest
 
--- what is no later than the last commit is earlier than what comes after it
+-- a moment no later than the last commit is earlier than a moment after it
 pub before : (last : Option ℤ) (m until : ℤ) → Under last m → Past last until → until <ℤ m
 before None m until u p = absurd p
 before (Some l) m until u p = omega (arith, ints, u, p)
@@ -75,9 +76,9 @@ empty-rest keeps last = record {
   kept = λ e. refl;
 }
 
--- ---- what a commit does to a table at rest
+-- ---- the effect of a commit on a table at rest
 
--- no version that is not closed goes
+-- no open version is removed
 pruned-open : (m : ℤ) (vs : List Version) → m <ℤ high
     → ((k : ℕ) → k < length vs → is_current (slice_index_or vs k nothing) ≡ true)
     → pruned m (filter alive vs) ≡ filter alive vs
@@ -116,7 +117,7 @@ rest-committed last m h u below r = record {
       (λ e. sym (rest-pruned last m h below r e) ∙ ap (λ (b : Bool). if b then live h else pruned m (live h)) (sym e)));
 }
 
--- ---- what a rollback does to a table at rest
+-- ---- the effect of a rollback on a table at rest
 
 undone-none : (m : ℤ) (vs : List Version)
     → ((v : Version) → In v vs → (int_lt v.row.start m ≡ true) × (int_eq v.end m ≡ false))
@@ -181,7 +182,7 @@ rest-rolled last m h u below r = record {
   versions = same-list (sym (rest-undone last m h u below r));
 }
 
--- ---- the ends of a transaction in each table
+-- ---- the end of a transaction in each table
 
 pub each-committed : (m : ℤ) (last : Option ℤ) (old new : List TableModel) (touched : List ℕ)
     → AreInTurn m last old touched → HaveEnded (IsCommitted m) (length touched) touched old new → (t : ℕ)
@@ -241,7 +242,7 @@ rollback-orderly m last places old new touched none o e nil =
       };
     }
 
--- what is left of a table that is kept, or not
+-- the versions that a commit leaves, by the slot of the table
 pub commit-bag : (m : ℤ) (places : List TableSlot) (t : ℕ) (old new : TableModel)
     → old.keeps ≡ is_kept (slot_at places t)
     → (slot_at places t ≡ Free → live old ≡ []) → IsCommitted m old new
@@ -256,14 +257,14 @@ commit-bag m places t old new keeps gone c =
     by_place Versioned k g = ap (λ (b : Bool). if b then live old else pruned m (live old)) k
     by_place Unversioned k g = ap (λ (b : Bool). if b then live old else pruned m (live old)) k
 
--- ---- a step of the loop over what is touched
+-- ---- a step of the loop over touched tables
 
 pub step-here : (Ends : TableModel → TableModel → Type 0) (n : ℕ) (touched : List ℕ) (old now : List TableModel)
     → HaveEnded Ends n touched old now → n < length touched → AreApart touched
     → table_at now (touch_at touched n) ≡ table_at old (touch_at touched n)
 step-here Ends n touched old now e l apart = e.others (touch_at touched n) (λ k o. apart k n o l)
 
--- the table that is read is as it was
+-- the table that the code reads has not changed yet
 pub read-here : (Ends : TableModel → TableModel → Type 0) (n : ℕ) (touched : List ℕ) (old now : List TableModel)
     (x : TableModel)
     → x ≡ slice_index_or now (touch_at touched n) x → HaveEnded Ends n touched old now → n < length touched
@@ -357,7 +358,7 @@ refused-orderly m last n places old new touched next there o h same rest =
     (λ e away. subst (AtRest last) (sym (h.others t e)) (o.ready.rest t away)))
     o.ready.within o.ready.apart)
 
--- a change that was refused leaves a table at rest so
+-- a failed change leaves a table at rest
 pub refused-rest : (m : ℤ) (last : Option ℤ) (h n : TableModel) → InTurn m n
     → n ≡ record h { room = n.room; entries = n.entries } → SameBag n.entries h.entries → AtRest last h → AtRest last n
 refused-rest m last h n t e es r = subst (AtRest last) (sym e) (record {
@@ -389,7 +390,7 @@ turned m n' n i rows old new at is less start turn since keeps =
       keeps = ap (λ (x : TableModel). x.keeps) here ∙ keeps ∙ ap (λ (x : TableModel). x.keeps) start;
     }
 
--- ---- beginnings and tables
+-- ---- beginnings and new tables
 
 pub begin-orderly : (m : ℤ) (last : Option ℤ) (places : List TableSlot) (rows : List TableModel) (touched : List ℕ)
     → IsOrderly places rows touched None last → Under last m → m <ℤ high → IsOrderly places rows touched (Some m) last

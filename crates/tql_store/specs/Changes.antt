@@ -1,4 +1,4 @@
--- What a transaction does to the copies of a table.
+-- What a transaction does to the copies of a table, in the reference model.
 use Rattle.std.specs.Prelude.{Bool, not, List, [], ◌∷◌, ◌++◌, map, filter, ℤ, ◌<ℤ◌, Option, Some, None}
 use Rattle.tql_spec.specs.Calendar.{high}
 use Rattle.tql_spec.specs.Datum.{Datum}
@@ -21,7 +21,7 @@ abbrev pub last_rows : List TableEntry → List Stamped
 last_rows [] = []
 last_rows (e ∷ older) = e.rows
 
--- the copies when a transaction begins: the last copy once more
+-- the copies when a transaction begins: another copy of the last one
 abbrev pub begun : ℤ → List TableEntry → List TableEntry
 begun m [] = record { moment = m; rows = [] } ∷ []
 begun m (e ∷ older) = record { moment = m; rows = e.rows } ∷ e ∷ older
@@ -34,8 +34,8 @@ rows_after m gone added rows = filter (λ r. not (gone r)) rows ++ map (starting
 abbrev pub emptied : List TableEntry → List TableEntry
 emptied entries = map (λ (e : TableEntry). record { moment = e.moment; rows = [] }) entries
 
--- in a transaction of a moment the versions stand for the copies with the working one, and without what it did for
--- those before
+-- in a transaction, the versions represent the copies with the working one; without its changes, they represent the
+-- older copies
 pub record InTransaction (horizon : Option ℤ) (versions : List Version) (working : TableEntry)
     (older : List TableEntry) : Type 0 where
   pub since : Under horizon working.moment

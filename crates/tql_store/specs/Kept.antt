@@ -1,8 +1,8 @@
--- What a horizon leaves of a table's copies, and from where on its versions are kept.
+-- Which copies of a table a horizon keeps, and from which moment its versions are kept.
 use Rattle.std.specs.Prelude.{List, [], ◌∷◌, ℤ, int_le, Option, Some, None, if◌then◌else◌}
 use Rattle.tql_spec.specs.History.{TableEntry}
 
--- what a horizon leaves of a table's copies: those down to the last one that is not after it
+-- the copies of a table that a horizon keeps: from the newest to the first that is not after the horizon
 abbrev pub forgotten : ℤ → List TableEntry → List TableEntry
 forgotten h [] = []
 forgotten h (e ∷ older) = e ∷ (if int_le e.moment h then [] else forgotten h older)
@@ -12,7 +12,7 @@ abbrev pub oldest : TableEntry → List TableEntry → ℤ
 oldest e [] = e.moment
 oldest e (f ∷ older) = oldest f older
 
--- from where on versions are told of: from the oldest copy on where the horizon has reached it, else without an end
+-- the moment from which versions are kept: that of the oldest copy if the horizon has reached it, else unlimited
 abbrev pub kept_of : ℤ → List TableEntry → Option ℤ
 kept_of h [] = None
 kept_of h (e ∷ older) = if int_le (oldest e older) h then Some (oldest e older) else None

@@ -1,5 +1,5 @@
--- What a store keeps true of its tables: each at rest or in the open transaction, and that it touched those that are
--- not at rest.
+-- The invariant of a store: each table is at rest or in the open transaction, and tables that are not at rest are
+-- touched.
 use Rattle.std.specs.Prelude.{◌≡◌, ◌≢◌, ◌⊎◌, ℕ, ◌<◌, ◌++◌, Bool, false, List, [], ◌∷◌, length, slice_index_or}
 use Rattle.std.specs.Prelude.{Contains, Option, Some, None, ℤ, ◌<ℤ◌, if◌then◌else◌, nat_eq}
 use Rattle.tql_spec.specs.Bag.{SameBag}
@@ -14,7 +14,7 @@ use Rattle.tql_store.specs.declared.tables.TableSlot.TheVariants.{Free}
 
 -- ---- tables by their numbers
 
--- a table without versions, that keeps its history or does not
+-- a table without versions, with or without history
 abbrev pub empty : Bool → rows.TableModel
 empty keeps = record {
   keeps = keeps;
@@ -27,15 +27,15 @@ empty keeps = record {
   entries = [];
 }
 
--- the table of a number; past the end one without versions
+-- the table with a number; past the end, one without versions
 abbrev pub table_at : List rows.TableModel → ℕ → rows.TableModel
 table_at tables t = slice_index_or tables t (empty false)
 
--- a number that is touched
+-- a touched number
 abbrev pub touch_at : List ℕ → ℕ → ℕ
 touch_at touched k = slice_index_or touched k 0
 
--- a number is not among those
+-- a number is not touched
 abbrev pub IsUntouched : List ℕ → ℕ → Type 0
 IsUntouched touched t = (k : ℕ) → k < length touched → touch_at touched k ≢ t
 
@@ -47,7 +47,7 @@ pub record AreAtRest (last : Option ℤ) (tables : List rows.TableModel) (touche
   pub below : Under last high
   pub rest : (t : ℕ) → AtRest last (table_at tables t)
 
--- in a transaction of a moment
+-- in a transaction of a given moment
 pub record AreInTurn (m : ℤ) (last : Option ℤ) (tables : List rows.TableModel) (touched : List ℕ) : Type 0 where
   pub below : m <ℤ high
   pub under : Under last m
@@ -69,7 +69,7 @@ pub record IsOrderly (places : List TableSlot) (tables : List rows.TableModel) (
   pub gone : (t : ℕ) → slot_at places t ≡ Free → rows.live (table_at tables t) ≡ []
   pub ready : AreReady working last tables touched
 
--- ---- what the ends of a transaction do to a table
+-- ---- the effect of the end of a transaction on a table
 
 pub record IsCommitted (m : ℤ) (old new : rows.TableModel) : Type 0 where
   pub rest : AtRest (Some m) new
@@ -81,20 +81,20 @@ pub record IsUndone (m : ℤ) (old new : rows.TableModel) : Type 0 where
   pub keeps : new.keeps ≡ old.keeps
   pub versions : SameBag (rows.live new) (undone m (rows.live old))
 
--- so many of the tables of these numbers have ended, and no other was looked at
+-- the transaction has ended in the first `n` touched tables, and no other table has changed
 pub record HaveEnded (Ends : rows.TableModel → rows.TableModel
     → Type 0) (n : ℕ) (touched : List ℕ) (old new : List rows.TableModel) : Type 0 where
   pub even : length new ≡ length old
   pub ended : (k : ℕ) → k < n → Ends (table_at old (touch_at touched k)) (table_at new (touch_at touched k))
   pub others : (t : ℕ) → ((k : ℕ) → k < n → touch_at touched k ≢ t) → table_at new t ≡ table_at old t
 
--- ---- what a horizon does
+-- ---- the effect of a horizon
 
--- what stands at a number in a list that says where closed versions stand, or that none go
+-- the new indexes for a table number; none if its closed versions are all kept
 abbrev pub pruning_at : List (Option Pruning) → ℕ → Option Pruning
 pruning_at prunings t = slice_index_or prunings t None
 
--- each table's closed versions stand where its number says
+-- the new indexes of each table are right for its closed versions
 pub record AreMade (h : ℤ) (tables : List rows.TableModel) (prunings : List (Option Pruning)) : Type 0 where
   pub even : length prunings ≡ length tables
   pub each : (t : ℕ) → t < length tables → IsPruning h (table_at tables t).closed (pruning_at prunings t)
@@ -104,13 +104,13 @@ pub record ArePruned (h : ℤ) (old new : List rows.TableModel) : Type 0 where
   pub even : length new ≡ length old
   pub each : (t : ℕ) → IsPruned h (table_at old t) (table_at new t)
 
--- ---- what a change does
+-- ---- the effect of a change
 
--- a number is among those that are touched, and behind them where it was not
+-- a number is among the touched ones, appended if it was not there
 abbrev pub IsNoted : ℕ → List ℕ → List ℕ → Type 0
 IsNoted n old new = ((new ≡ old) × Contains old n) ⊎ ((new ≡ old ++ n ∷ []) × (Contains old n → ⊥))
 
--- the table of a number is still in the transaction, and no other was looked at
+-- the table with a number is still in the transaction, and no other table has changed
 pub record HasTurned (m : ℤ) (n : ℕ) (old new : List rows.TableModel) : Type 0 where
   pub even : length new ≡ length old
   pub others : (t : ℕ) → nat_eq t n ≡ false → table_at new t ≡ table_at old t
@@ -118,7 +118,7 @@ pub record HasTurned (m : ℤ) (n : ℕ) (old new : List rows.TableModel) : Type
   pub since : (last : Option ℤ) → Since last (table_at old n) → Since last (table_at new n)
   pub keeps : (table_at new n).keeps ≡ (table_at old n).keeps
 
--- another table stands at a number, and no other was looked at
+-- a number has another table, and no other table has changed
 pub record IsPut (n : ℕ) (table : rows.TableModel) (old new : List rows.TableModel) : Type 0 where
   pub here : table_at new n ≡ table
   pub others : (t : ℕ) → nat_eq t n ≡ false → table_at new t ≡ table_at old t

@@ -1,4 +1,4 @@
--- What a store shows at a pin: what stood when the commit of that moment was the last one.
+-- The store shown at a pin: as it was when the commit of that moment was the last one.
 use Rattle.std.specs.Prelude.{◌≡◌, ℕ, List, [], ◌∷◌, map, ℤ, ◌≤ℤ◌, int_le, int_lt, Option, Some, None}
 use Rattle.std.specs.Prelude.{if◌then◌else◌}
 use Rattle.tql_spec.specs.Bag.{In}
@@ -20,7 +20,7 @@ use Rattle.tql_store.specs.declared.tables.TableSlot.TheVariants.{Free}
 
 -- ---- versions
 
--- an end as far as it was told when the commit of a moment was the last one: what came later had not come
+-- an end as known when the commit of a moment was the last one: `high` if the version was ended later
 abbrev pub end_told : ℤ → ℤ → ℤ
 end_told p end = if int_lt p end then high else end
 
@@ -28,28 +28,28 @@ end_told p end = if int_lt p end then high else end
 abbrev pub capped : ℤ → Version → Version
 capped p v = record { row = v.row; end = end_told p v.end }
 
--- what is shown at a pin in the place of a version: nothing where it had not begun; before any commit none had
+-- the version shown at a pin: an empty one if the version had not begun; before any commit none had
 abbrev pub shown_at : Option ℤ → Version → Version
 shown_at None v = nothing
 shown_at (Some p) v = if int_le v.row.start p then capped p v else nothing
 
 -- ---- tables
 
--- what is shown in the place of a slot: no table that keeps its last copy alone
+-- the slot shown at a pin: free for a table that keeps only its last copy
 abbrev pub slot_pinned : TableSlot → TableSlot
 slot_pinned s = if is_brief s then Free else s
 
--- what is shown in the place of a table's versions: none of one that does not keep its history
+-- the versions shown at a pin: none for a table without history
 abbrev pub versions_of_slot : Option ℤ → TableSlot → List Version → List Version
 versions_of_slot pin s vs = if is_kept s then map (shown_at pin) vs else []
 
--- of each table by its number
+-- the versions shown of each table, by its number
 abbrev pub versions_pinned : Option ℤ → List TableSlot → List (List Version) → List (List Version)
 versions_pinned pin (s ∷ slots) (vs ∷ tables) = versions_of_slot pin s vs ∷ versions_pinned pin slots tables
 versions_pinned pin _ _ = []
 
--- a store as it stood when the commit of a pin was the last one: of the tables that are there, those that keep their
--- history; places, and with them ids, stay
+-- the store when the commit of a pin was the last one: it shows the tables with history; positions, and thus ids, do
+-- not change
 abbrev pub pinned : Option ℤ → StoreModel → StoreModel
 pinned pin h = record {
   tables = map slot_pinned h.tables;
@@ -59,15 +59,14 @@ pinned pin h = record {
   horizon = h.horizon;
 }
 
--- a store as it is shown at a position
+-- the store shown at a position
 abbrev pub store_at : Position → StoreModel → StoreModel
 store_at Now h = h
 store_at (At pin) h = pinned pin h
 
--- ---- questions
+-- ---- queries
 
--- a question that finds of the versions of a store, which end by the highest moment, what another one finds of what is
--- shown at a pin
+-- a query on a store whose versions end by the highest moment that selects the versions which `when` selects at a pin
 pub record AsksAt (p : ℤ) (when other : When) : Type 0 where
   pub tells : (v : Version) → v.end ≤ℤ high → is_answer when (shown_at (Some p) v) ≡ is_answer other v
 
@@ -82,22 +81,22 @@ abbrev pub not_after : ℤ → List TableEntry → List TableEntry
 not_after p [] = []
 not_after p (e ∷ older) = if int_le e.moment p then e ∷ older else not_after p older
 
--- the copies up to a pin; before any commit there was none
+-- the copies up to a pin; before any commit there are none
 abbrev pub until_pin : Option ℤ → List TableEntry → List TableEntry
 until_pin None entries = []
 until_pin (Some p) entries = not_after p entries
 
--- a pin is none, or the moment of one of the copies
+-- a pin is none, or the moment of a copy
 abbrev pub IsPin : Option ℤ → List TableEntry → Type 0
 IsPin None entries = Unit {0}
 IsPin (Some p) entries = (e : TableEntry) × In e entries × (e.moment ≡ p)
 
--- the copies of each table up to a pin; a number at which no table is shown has copies without rows
+-- the copies of each table up to a pin; for a number without a shown table, copies without rows
 abbrev pub copies_until : Option ℤ → List TableSlot → Copies → Copies
 copies_until pin slots copies t =
     if is_kept (slot_at slots t) then until_pin pin (copies t) else emptied (until_pin pin (copies t))
 
--- what is shown at a pin stands for the copies up to it, where it is the moment of one of them
+-- if the pin is the moment of a copy, the store shown represents the copies up to it
 abbrev pub PinCopies : Option ℤ → StoreModel → StoreModel → Type 0
 PinCopies pin old shown = (copies : Copies) (working any : Working) → ((t : ℕ) → IsPin pin (copies t))
     → Represents old copies working → Represents shown (copies_until pin old.tables copies) any

@@ -1,4 +1,4 @@
--- A store stands for the copies of the machine that copies each table at each commit.
+-- A store represents the copies of the reference model, which copies each table at each commit.
 use Rattle.std.specs.Prelude.{◌≡◌, ℕ, ◌+◌, Bool, false, ◌&&◌, List, ◌∷◌, filter, length, ℤ, nat_eq, Option, Some}
 use Rattle.std.specs.Prelude.{None, if◌then◌else◌}
 use Rattle.tql_spec.specs.Bag.{SameBag}
@@ -18,7 +18,7 @@ use Rattle.tql_store.specs.declared.tables.TableSlot.TheVariants.{Free}
 
 -- ---- the relation
 
--- the copies of each table that were committed, newest first; a number at which no table stands has copies without rows
+-- the committed copies of each table, newest first; for a number without a table, copies without rows
 abbrev pub Copies : Type 0
 Copies = ℕ → List TableEntry
 
@@ -26,12 +26,12 @@ Copies = ℕ → List TableEntry
 abbrev pub Working : Type 0
 Working = ℕ → List Stamped
 
--- from where on the versions of a table are kept: as far back as a horizon and the copies tell, or of an unversioned
--- table what stands since the last commit
+-- the moment from which the versions of a table are kept: given by its copies and the horizon, or for an unversioned
+-- table by the last commit
 abbrev pub horizon_of : List TableSlot → Option ℤ → ℤ → List TableEntry → ℕ → Option ℤ
 horizon_of places last h entries t = if is_brief (slot_at places t) then last else kept_of h entries
 
--- with no transaction open the versions of a table stand for its copies; else for these with the working one
+-- without a transaction, the versions of a table represent its copies; in one, the copies with the working one
 abbrev pub StandsWith : Option ℤ → Option ℤ → List Version → List TableEntry → List Stamped → Type 0
 StandsWith horizon None versions entries rows = StandsFor horizon versions entries
 StandsWith horizon (Some m) versions entries rows = InTransaction horizon versions (record {
@@ -39,7 +39,7 @@ StandsWith horizon (Some m) versions entries rows = InTransaction horizon versio
   rows = rows;
 }) entries
 
--- the store stands for these copies of each table, and, if a transaction is open, this working copy
+-- the store represents these copies of each table, and, in a transaction, this working copy
 pub record Represents (h : StoreModel) (copies : Copies) (working : Working) : Type 0 where
   pub dated : (t : ℕ) → newest (copies t) ≡ h.last
   pub stands : (t : ℕ)
@@ -47,33 +47,33 @@ pub record Represents (h : StoreModel) (copies : Copies) (working : Working) : T
 
 -- ---- transactions
 
--- what a beginning does: the working copy is the last one
+-- the effect of a beginning: the working copy is the last copy
 abbrev pub BeginCopies : StoreModel → StoreModel → Type 0
 BeginCopies old new = (copies : Copies) (working : Working) → Represents old copies working
     → Represents new copies (λ t. last_rows (copies t))
 
--- the copies with a working one
+-- the copies with the working one
 abbrev pub appended : ℤ → Working → Copies → Copies
 appended m working copies t = record { moment = m; rows = working t } ∷ copies t
 
--- what a commit does to the copies
+-- the effect of a commit on the copies
 abbrev pub CommitAppends : StoreModel → StoreModel → Type 0
 CommitAppends old new = (copies : Copies) (working : Working) (m : ℤ) → old.working ≡ Some m
     → Represents old copies working → Represents new (appended m working copies) working
 
--- what a rollback gives back
+-- a rollback restores the copies
 abbrev pub RollbackRestores : StoreModel → StoreModel → Type 0
 RollbackRestores old new = (copies : Copies) (working : Working) (m : ℤ) → old.working ≡ Some m
     → Represents old copies working → Represents new copies working
 
 -- ---- changes
 
--- the ids listed are those of the versions that a change of a table takes away: what goes is told by the rows' values
+-- the listed ids are those of the versions that a change removes: the current ones that `gone` selects by their rows
 abbrev pub Judged : StoreModel → ℕ → (Stamped → Bool) → List ℕ → Type 0
 Judged h t gone removed = (id : ℕ) (v : Version) → named h t id ≡ Some v
     → is_among id removed ≡ (alive v && (is_current v && gone v.row))
 
--- a change of a table: those of its versions that go are replaced by those that come, and nothing else is touched
+-- a change of a table replaces the removed versions with the added ones, and changes nothing else
 pub record ReplacesVersions (t : ℕ) (removed : List ℕ) (added : List (List Datum)) (old new : StoreModel) : Type 0 where
   pub tables : new.tables ≡ old.tables
   pub working : new.working ≡ old.working
@@ -85,11 +85,11 @@ pub record ReplacesVersions (t : ℕ) (removed : List ℕ) (added : List (List D
   pub counted : length (filter is_current (live new t)) + length removed ≡ length (filter is_current (live old t)) +
       length added
 
--- the working copy with other rows of one table
+-- the working copy with new rows for one table
 abbrev pub with_rows : ℕ → List Stamped → Working → Working
 with_rows t rows working u = if nat_eq u t then rows else working u
 
--- what a change does: of its table the rows that go are replaced by those that come
+-- the effect of a change: in the working copy of its table, the added rows replace the removed ones
 abbrev pub ChangeReplaces : ℕ → List ℕ → List (List Datum) → StoreModel → StoreModel → Type 0
 ChangeReplaces t removed added old new = (copies : Copies) (working : Working) (m : ℤ) (gone : Stamped → Bool)
     → old.working ≡ Some m → Judged old t gone removed → Represents old copies working
@@ -97,11 +97,11 @@ ChangeReplaces t removed added old new = (copies : Copies) (working : Working) (
 
 -- ---- tables
 
--- another slot stands at a number, and nothing else is changed
+-- a number has another slot, and nothing else is changed
 pub record Takes (t : ℕ) (place : TableSlot) (old new : List TableSlot) : Type 0 where
   pub places : (u : ℕ) → slot_at new u ≡ (if nat_eq u t then place else slot_at old u)
 
--- a new table is there, at a number where none was; no version, no transaction is touched
+-- a new table has a number that was free; no version and no transaction is changed
 pub record AddsTable (versioned : Bool) (t : ℕ) (old new : StoreModel) : Type 0 where
   pub free : slot_at old.tables t ≡ Free
   pub takes : Takes t (place_for versioned) old.tables new.tables
@@ -111,7 +111,7 @@ pub record AddsTable (versioned : Bool) (t : ℕ) (old new : StoreModel) : Type 
   pub horizon : new.horizon ≡ old.horizon
   pub versions : (u : ℕ) → live new u ≡ live old u
 
--- the same copies: the new table has no row in any, as its number had none
+-- the copies do not change: the new table has no rows in any, as its number had none
 abbrev pub AddKeepsCopies : StoreModel → StoreModel → Type 0
 AddKeepsCopies old new = (copies : Copies) (working : Working) → Represents old copies working
     → Represents new copies working
@@ -120,35 +120,35 @@ AddKeepsCopies old new = (copies : Copies) (working : Working) → Represents ol
 abbrev pub copies_without : ℕ → Copies → Copies
 copies_without t copies u = if nat_eq u t then emptied (copies u) else copies u
 
--- what a drop does to the copies
+-- the effect of a drop on the copies
 abbrev pub DropEmpties : ℕ → StoreModel → StoreModel → Type 0
 DropEmpties t old new = (copies : Copies) (working : Working) → Represents old copies working
     → Represents new (copies_without t copies) working
 
 -- ---- a horizon
 
--- the copies of each table that a horizon leaves; an unversioned table keeps its last one alone, as before
+-- the copies of each table that a horizon keeps; an unversioned table has only its last one, as before
 abbrev pub copies_left : ℤ → Copies → Copies
 copies_left h copies t = forgotten h (copies t)
 
--- what a pruning does to the copies
+-- the effect of pruning on the copies
 abbrev pub PrunesCopies : ℤ → StoreModel → StoreModel → Type 0
 PrunesCopies h old new = (copies : Copies) (working : Working) → Represents old copies working
     → Represents new (copies_left h copies) working
 
 -- ---- readings
 
--- the copies that queries see: an open transaction counts as the last commit
+-- the copies that queries see: an open transaction counts as committed
 abbrev pub seen_by : Option ℤ → Copies → Working → Copies
 seen_by None copies working = copies
 seen_by (Some m) copies working = appended m working copies
 
--- what a reading answers that asks for nothing before the horizon: what the definitions find in the copies
+-- a reading that asks for nothing before the horizon returns what the definitions find in the copies
 abbrev pub Answers : StoreModel → ℕ → When → List Version → Type 0
 Answers h t when found = is_before h.horizon when ≡ false → (copies : Copies) (working : Working)
     → Represents h copies working → SameBag found (versions_found when (seen_by h.working copies working t))
 
--- and what one answers that asks for rows which pass a test
+-- the same for a reading of the rows that pass a test
 abbrev pub AnswersBy : StoreModel → ℕ → When → (Row → Bool) → List Version → Type 0
 AnswersBy h t when test found = is_before h.horizon when ≡ false → (copies : Copies) (working : Working)
     → Represents h copies working → SameBag found

@@ -1,4 +1,4 @@
--- What the versions of a table have to do with its copies.
+-- How the versions of a table relate to its copies.
 use Rattle.std.specs.Prelude.{Bool, ◌&&◌, List, [], ◌∷◌, filter, ℤ, ◌≤ℤ◌, ◌<ℤ◌, int_le, int_lt, ◌⊎◌, Option, Some, None}
 use Rattle.tql_versions.specs.Changes.{Under, Past}
 use Rattle.tql_spec.specs.Bag.{SameBag, In}
@@ -6,24 +6,24 @@ use Rattle.tql_spec.specs.Calendar.{high}
 use Rattle.tql_spec.specs.Definition.{Stamped, Version}
 use Rattle.tql_spec.specs.History.{TableEntry, completed}
 
--- ---- horizons: what ended at one or before it may be gone; with none nothing is
+-- ---- horizons: versions that ended at or before the horizon may have been removed; without one, none have
 
 -- a moment is not before the horizon
 abbrev pub Within : Option ℤ → ℤ → Type 0
 Within None m = Unit {0}
 Within (Some h) m = h ≤ℤ m
 
--- ---- copies
+-- ---- copies and rows
 
--- whether a row with these ends stands at a moment
+-- whether a row with these ends exists at a moment
 abbrev pub stands_at : (Stamped → ℤ) → ℤ → Stamped → Bool
 stands_at ends m r = int_le r.start m && int_lt m (ends r)
 
--- nothing happens between two moments
+-- a moment is not between two others
 abbrev pub Outside : ℤ → ℤ → ℤ → Type 0
 Outside from until m = (m ≤ℤ from) ⊎ (until ≤ℤ m)
 
--- the copy that stands until a moment is the rows that stand
+-- a copy that lasts until a moment consists of the rows that exist at its own; no row begins or ends in between
 pub record Fits (rows : List Stamped) (ends : Stamped → ℤ) (e : TableEntry) (until : ℤ) : Type 0 where
   pub copy : SameBag e.rows (filter (stands_at ends e.moment) rows)
   pub starts : (r : Stamped) → In r rows → Outside e.moment until r.start
@@ -33,7 +33,7 @@ pub record Fits (rows : List Stamped) (ends : Stamped → ℤ) (e : TableEntry) 
 abbrev pub Unborn : List Stamped → ℤ → Type 0
 Unborn rows until = (r : Stamped) → In r rows → until ≤ℤ r.start
 
--- so it is in each copy, newest first, that stands beyond the horizon; before the first no row begins
+-- each copy, newest first, that lasts beyond the horizon fits the rows; before the oldest, no row begins
 abbrev pub Told : Option ℤ → List Stamped → (Stamped → ℤ) → ℤ → List TableEntry → Type 0
 Told horizon rows ends until [] = Past horizon until ⊎ Unborn rows until
 Told horizon rows ends until (e ∷ older) =
@@ -43,7 +43,7 @@ Told horizon rows ends until (e ∷ older) =
 abbrev pub Proper : List Stamped → (Stamped → ℤ) → Type 0
 Proper rows ends = (r : Stamped) → In r rows → (r.start <ℤ ends r) × (ends r ≤ℤ high)
 
--- versions stand for the copies from a horizon on: they are rows, each with one end, that the copies tell of
+-- versions represent the copies from a horizon on: they are rows, each with one end, that fit the copies
 pub record StandsFor (horizon : Option ℤ) (versions : List Version) (entries : List TableEntry) : Type 0 where
   pub rows : List Stamped
   pub ends : Stamped → ℤ

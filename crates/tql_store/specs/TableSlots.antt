@@ -1,25 +1,25 @@
--- What stands at each table's number.
+-- The slots of table numbers.
 use Rattle.std.specs.Prelude.{ℕ, Bool, true, false, List, slice_index_or}
 use Rattle.tql_store.specs.declared.tables.TableSlot.{TableSlot}
 use Rattle.tql_store.specs.declared.tables.TableSlot.TheVariants.{Free, Versioned, Unversioned}
 
--- what stands at a number
+-- the slot of a number
 abbrev pub slot_at : List TableSlot → ℕ → TableSlot
 slot_at places t = slice_index_or places t Free
 
--- whether a table stands in a slot
+-- whether a slot has a table
 abbrev pub is_taken : TableSlot → Bool
 is_taken Free = false
 is_taken Versioned = true
 is_taken Unversioned = true
 
--- whether it keeps its history
+-- whether the table has history
 abbrev pub is_kept : TableSlot → Bool
 is_kept Free = false
 is_kept Versioned = true
 is_kept Unversioned = false
 
--- whether it keeps its last copy alone
+-- whether it keeps only its last copy
 abbrev pub is_brief : TableSlot → Bool
 is_brief Free = false
 is_brief Versioned = false

@@ -1,4 +1,4 @@
--- What the answers of a reading stand for.
+-- What the answers of a reading represent.
 use Rattle.std.specs.Prelude.{◌≡◌, ℕ, Bool, ◌&&◌, List, map, filter, count_by, nat_eq, Option, Some, if◌then◌else◌, All}
 use Rattle.std.specs.Prelude.{slice_get}
 use Rattle.tql_spec.specs.Bag.{SameBag}
@@ -13,29 +13,29 @@ use Rattle.tql_value.specs.declared.when.When.TheVariants.{Now}
 use Rattle.tql_store.specs.Represents.{Answers, AnswersBy}
 use Rattle.tql_store.specs.StoreModel.{StoreModel, live, named}
 
--- an answer's id names its version
+-- the id of an answer is that of its version
 abbrev pub Names : StoreModel → ℕ → Version → Type 0
 Names h table s = named h table s.id ≡ Some (version_of s)
 
--- and each version of the table that passes the test is named once, no other at all
+-- each version of the table that passes the test occurs once among the answers, and no other does
 abbrev pub NamesOnce : StoreModel → ℕ → (definition.Version → Bool) → List Version → Type 0
 NamesOnce h table test found = (id : ℕ) (v : definition.Version) → named h table id ≡ Some v
     → count_by (λ (s : Version). nat_eq s.id id) found ≡ (if alive v && test v then 1 else 0)
 
--- the versions of a table that are asked for and whose rows pass a test; each under its id, and none twice; so many as
--- the definitions find in the copies
+-- the versions of a table that a query selects and whose rows pass a test, each under its id and none twice; the same
+-- bag as the definitions find in the copies
 pub record IsFound (h : StoreModel) (table : ℕ) (when : When) (test : Row → Bool) (found : List Version) : Type 0 where
   pub versions : SameBag (map version_of found) (filter (λ v. asked when v && test v.row.cells) (live h table))
   pub ids : All (Names h table) found
   pub once : NamesOnce h table (λ v. asked when v && test v.row.cells) found
   pub copies : AnswersBy h table (when_of when) test (map version_of found)
 
--- the current version that an id names
+-- the current version with an id
 abbrev pub current_named : StoreModel → ℕ → ℕ → Option definition.Version
 current_named h table id = where_open (named h table id)
 
--- versions of a table that stand as current ones: those that are open are the rows now, so many as the definitions find
--- in the copies; each is named by its place
+-- versions of a table stored as current: the open ones are the current rows, the same bag as the definitions find in
+-- the copies; the id of each is its position
 pub record AreRowsNow (h : StoreModel) (table : ℕ) (vs : List definition.Version) : Type 0 where
   pub versions : SameBag (open_ones vs) (filter (asked Now) (live h table))
   pub ids : (id : ℕ) (v : definition.Version) → slice_get vs id ≡ Some v → named h table id ≡ Some v

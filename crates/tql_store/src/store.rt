@@ -1,4 +1,4 @@
-//! The store: the versions of all tables, what a change is to it, and how a transaction begins and ends.
+//! The store: the versions of all tables, their changes, and the beginning and end of transactions.
 ghost use Rattle.std.specs.Prelude.{◌≡◌, ◌↔◌, Bool, ℕ, ℤ, ◌||◌, ◌<◌, ◌++◌, ◌+◌, ◌<ℤ◌, ◌≤ℤ◌, nat_eq, if◌then◌else◌, []};
 ghost use Rattle.std.specs.Prelude.{map, filter, length, All, IsNone, IsSome, IsTrue, is_some, Some, None, IfOk, OnOk};
 ghost use Rattle.std.specs.Prelude.{◌&&◌, OnErr, IfErr, Err, IfSome, option_map};
@@ -49,20 +49,21 @@ use tql_value::when::When;
 use tql_versions::kept::Kept;
 use tql_versions::version::Version;
 
-/// A change of a table: the versions that go, by their ids, and the rows that come, without generated columns.
+/// A change of a table: the ids of the versions to remove, and the rows to add, without generated columns.
 pub struct Delta {
-    /// The table that is changed.
+    /// The table to change.
     pub table: TableId,
-    /// The current versions that go.
+    /// The ids of the current versions to remove.
     pub removed: Vec<usize, Memory>,
-    /// The rows that come.
+    /// The rows to add.
     pub added: Vec<Vec<Value, Memory>, Memory>,
-    /// How many rows the statement reports.
+    /// The row count that the statement reports.
     pub count: u64,
 }
 
 impl Delta {
-    /// Makes the change in its table, and notes that as touched. Refused where memory is, and then nothing is changed.
+    /// Makes the change in its table and records the table as touched. Fails if out of memory; then no version is
+    /// changed.
     fn make<I: IntervalIndex>(
         self,
         rows: &mut [Versions<I>],
@@ -116,17 +117,17 @@ impl Drop for Delta {
     }
 }
 
-/// The versions of all tables: an index of each keeps those that are closed.
+/// The versions of all tables. Each table has an index of its closed versions.
 pub struct Store<I: IntervalIndex> {
     memory: Memory,
     places: Vec<TableSlot, Memory>,
-    /// The versions of the table of each number.
+    /// The versions of each table, by its number.
     rows: Vec<Versions<I>, Memory>,
     /// The numbers of the tables that the open transaction changed.
     touched: Vec<usize, Memory>,
     working: Option<i64>,
     last: Option<i64>,
-    /// No question asks before it, in microseconds since 1970-01-01.
+    /// The moment before which no query may ask, in microseconds since 1970-01-01.
     horizon: i64,
 }
 
@@ -168,7 +169,7 @@ impl<I: IntervalIndex> Model for Store<I> {
 }
 
 impl<I: IntervalIndex> Store<I> {
-    /// A store without tables.
+    /// Creates a store without tables.
     pub fn new(memory: Memory) -> Store<I>
         ensures tables { result.tables ≡ [] }
         ensures working { result.working ≡ None }
@@ -188,21 +189,21 @@ impl<I: IntervalIndex> Store<I> {
         }
     }
 
-    /// How many tables there are.
+    /// Returns the number of tables.
     pub fn table_count(&self) -> usize
         ensures { result ≡ tables_there self.now }
     {
         taken_count(&self.places)
     }
 
-    /// Whether the table is there.
+    /// Whether the table exists.
     pub fn has_table(&self, table: TableId) -> bool
         ensures { result ≡ table_there self.now table }
     {
         place_at(&self.places, table).is_taken()
     }
 
-    /// Whether the table is there and versioned.
+    /// Whether the table exists and is versioned.
     pub fn is_versioned(&self, table: TableId) -> bool
         ensures { result ≡ table_versioned self.now table }
     {
@@ -216,7 +217,7 @@ impl<I: IntervalIndex> Store<I> {
         self.working.is_some()
     }
 
-    /// Whether a moment, in microseconds since 1970-01-01, is later than the last commit's.
+    /// Whether a moment, in microseconds since 1970-01-01, is later than the last commit.
     pub fn is_later(&self, moment: i64) -> bool
         ensures { IsTrue result ↔ Under self.now.last moment }
     {
@@ -226,26 +227,25 @@ impl<I: IntervalIndex> Store<I> {
         }
     }
 
-    /// The moment of the last commit, in microseconds since 1970-01-01; none before any. Takes no memory.
+    /// Returns the moment of the last commit, in microseconds since 1970-01-01; none before any. Allocates no memory.
     pub fn pin(&self) -> Option<i64>
         ensures { result ≡ self.now.last }
     {
         self.last
     }
 
-    /// The moment before which no question is to ask, in microseconds since 1970-01-01: at first that of
-    /// 0001-01-01 00:00:00.
+    /// Returns the moment before which no query may ask, in microseconds since 1970-01-01. Initially it is 0001-01-01
+    /// 00:00:00.
     pub fn horizon(&self) -> i64
         ensures { result ≡ self.now.horizon }
     {
         self.horizon
     }
 
-    /// Adds a table, empty at every moment (this project's choice), at a number below 1,000 where none stands.
-    /// Its rows are found without looking at all of them by their values in each of these lists of columns, of a
-    /// versioned table the closed versions too, and current rows by the period from the first of two columns to the
-    /// second, if there are two; a column is told by its number among those that are stored. Refused where memory is,
-    /// and then nothing is changed.
+    /// Adds a table under a free number below 1,000. The table is empty at every moment (this project's choice). Each
+    /// list of columns gets an index by value, on closed versions too if the table is versioned. The period between two
+    /// columns, if given, gets an index on current rows. Columns are numbered among the stored ones. Fails if out of
+    /// memory; then nothing is changed.
     pub fn add_table(
         &mut self,
         versioned: bool,
@@ -267,7 +267,7 @@ impl<I: IntervalIndex> Store<I> {
         Ok(table)
     }
 
-    /// Removes a table with all its versions: it is gone at every moment (this project's choice).
+    /// Removes a table with all its versions, at every moment (this project's choice).
     pub fn drop_table(&mut self, table: TableId)
         requires closed { IsNone self.old.working }
         requires present { IsTrue (table_there self.old table) }
@@ -284,7 +284,7 @@ impl<I: IntervalIndex> Store<I> {
         set_rows(&mut self.rows, usize::from(table.number()), rows);
     }
 
-    /// The moment of the open transaction.
+    /// Returns the moment of the open transaction.
     fn moment(&self) -> i64
         requires { IsSome self.now.working }
         ensures { self.now.working ≡ Some result }
@@ -295,7 +295,7 @@ impl<I: IntervalIndex> Store<I> {
         moment
     }
 
-    /// Begins a transaction of the moment, in microseconds since 1970-01-01.
+    /// Begins a transaction at the moment, in microseconds since 1970-01-01.
     pub fn begin(&mut self, moment: i64)
         requires closed { IsNone self.old.working }
         requires later { Under self.old.last moment }
@@ -311,7 +311,7 @@ impl<I: IntervalIndex> Store<I> {
         self.working = Some(moment);
     }
 
-    /// Makes a change in the open transaction. Refused where memory is, and then nothing is changed.
+    /// Makes a change in the open transaction. Fails if out of memory; then nothing is changed.
     pub fn apply(&mut self, delta: Delta) -> Result<(), Refusal>
         requires open_now { IsSome self.old.working }
         requires present { IsTrue (table_there self.old delta.table) }
@@ -328,7 +328,7 @@ impl<I: IntervalIndex> Store<I> {
         Ok(())
     }
 
-    /// Commits the open transaction. Of a table that is not versioned the last copy alone is kept.
+    /// Commits the open transaction. An unversioned table keeps only its last copy.
     pub fn commit(&mut self)
         requires { IsSome self.old.working }
         ensures tables { self.new.tables ≡ self.old.tables }
@@ -363,10 +363,10 @@ impl<I: IntervalIndex> Store<I> {
         self.working = None;
     }
 
-    /// Lets history go (this project's addition): of each table that keeps it the versions that are closed and end at
-    /// or before the horizon, a moment in microseconds since 1970-01-01 that may lie beyond the last commit. Time is in
-    /// proportion to the closed versions of all tables, times a logarithm. Refused where memory is, and then nothing is
-    /// changed in any table; the memory of what goes is given back.
+    /// Removes history (this project's addition): from each table with history, the closed versions that end at or
+    /// before the horizon. The horizon, in microseconds since 1970-01-01, may be later than the last commit. Time is
+    /// proportional to the number of closed versions of all tables, times a logarithm. Frees the removed rows. Fails if
+    /// out of memory; then no table is changed.
     pub fn prune(&mut self, horizon: i64) -> Result<(), Refusal>
         requires closed { IsNone self.old.working }
         requires later { self.old.horizon ≤ℤ horizon }
@@ -386,8 +386,8 @@ impl<I: IntervalIndex> Store<I> {
         Ok(())
     }
 
-    /// The versions of a table that are asked for (FOR SYSTEM_TIME, ISO/IEC 9075-2:2011, 7.6): of one that is not
-    /// versioned the rows now, each as a version that is not closed.
+    /// Returns the versions of a table selected by FOR SYSTEM_TIME (ISO/IEC 9075-2:2011, 7.6). For an unversioned table
+    /// these are the current rows, each as a version that is not closed.
     pub fn found(&self, table: TableId, when: When) -> Result<Vec<Version<'_>, Memory>, AllocError>
         requires there { IsTrue (table_there self.now table) }
         requires versioned { IsTrue (is_now (when_of when) || table_versioned self.now table) }
@@ -401,8 +401,8 @@ impl<I: IntervalIndex> Store<I> {
         Ok(found)
     }
 
-    /// The versions of a table that stand as current ones, each at the place that is its id: those that are open
-    /// (`if_open` of `tql_store_rows`) are the rows now. Takes no memory.
+    /// Returns the versions of a table stored as current; the id of each is its position. The open ones (`if_open`
+    /// of `tql_versions`) are the current rows. Allocates no memory.
     pub fn current(&self, table: TableId) -> &[Kept]
         requires { IsTrue (table_there self.now table) }
         ensures { AreRowsNow self.now table (versions_of result.now) }
@@ -410,7 +410,7 @@ impl<I: IntervalIndex> Store<I> {
         self.rows[usize::from(table.number())].current()
     }
 
-    /// The versions of a table that are asked for and whose rows are sought.
+    /// Returns the versions of a table that `when` selects and whose rows match the lookup.
     fn search(
         &self,
         table: TableId,
@@ -425,8 +425,8 @@ impl<I: IntervalIndex> Store<I> {
         Ok(found)
     }
 
-    /// The versions of a table that are asked for (FOR SYSTEM_TIME, ISO/IEC 9075-2:2011, 7.6), and of these, where some
-    /// are sought, those alone.
+    /// Returns the versions of a table selected by FOR SYSTEM_TIME (ISO/IEC 9075-2:2011, 7.6); if a lookup is given,
+    /// only those whose rows match it.
     pub fn look(
         &self,
         table: TableId,
@@ -444,8 +444,8 @@ impl<I: IntervalIndex> Store<I> {
         }
     }
 
-    /// What `look` answers of the store as it stood when the commit of the pin, in microseconds since 1970-01-01, was
-    /// the last one; no pin: before any.
+    /// Returns what `look` returns for the store when the commit of the pin, in microseconds since 1970-01-01, was the
+    /// last one; no pin: before any commit.
     pub(crate) fn look_at(
         &self,
         pin: Option<i64>,
@@ -465,9 +465,8 @@ impl<I: IntervalIndex> Store<I> {
         versions_at(memory, pin, &found)
     }
 
-    /// The current rows of a table with these values in these columns; NULL is no value's equal. Each is a version that
-    /// is not closed. Where the table was added with these columns, no other row is looked at, but those that meet by
-    /// chance.
+    /// Returns the current rows of a table with these values in these columns, each as a version that is not closed;
+    /// NULL equals nothing. If the table was added with these columns, reads other rows only on a hash collision.
     pub fn with_key(
         &self,
         table: TableId,
@@ -481,7 +480,7 @@ impl<I: IntervalIndex> Store<I> {
         self.search(table, When::Now, Sought::With(columns, tuple))
     }
 
-    /// Of the current rows of a table with these values in these columns, those whose period, from the first of two
+    /// Returns the current rows of a table with these values in these columns whose period, from the first of two
     /// columns to the second, shares a point with this one.
     pub fn with_key_in(
         &self,
@@ -503,9 +502,9 @@ impl<I: IntervalIndex> Store<I> {
         )
     }
 
-    /// The versions of a table that are asked for (FOR SYSTEM_TIME, ISO/IEC 9075-2:2011, 7.6), with these values in
-    /// these columns; NULL is no value's equal. Where the table was added with these columns, no other version is
-    /// looked at, current or closed, but those of these values at other moments, and those that meet by chance.
+    /// Returns the versions of a table selected by FOR SYSTEM_TIME (ISO/IEC 9075-2:2011, 7.6) with these values in
+    /// these columns; NULL equals nothing. If the table was added with these columns, reads only versions with these
+    /// values, current or closed, and others only on a hash collision.
     pub fn found_with(
         &self,
         table: TableId,
@@ -521,8 +520,8 @@ impl<I: IntervalIndex> Store<I> {
         self.search(table, when, Sought::With(columns, tuple))
     }
 
-    /// The current rows of a table whose period, from the first column to the second, holds the point, in days or
-    /// microseconds since 1970-01-01.
+    /// Returns the current rows of a table whose period, from the first column to the second, contains the point, in
+    /// days or microseconds since 1970-01-01.
     pub fn holding(
         &self,
         table: TableId,
@@ -541,7 +540,8 @@ impl<I: IntervalIndex> Store<I> {
         )
     }
 
-    /// The current rows of a table whose period, from the first column to the second, shares a point with this one.
+    /// Returns the current rows of a table whose period, from the first column to the second, shares a point with this
+    /// one.
     pub fn sharing(
         &self,
         table: TableId,
@@ -560,8 +560,8 @@ impl<I: IntervalIndex> Store<I> {
         )
     }
 
-    /// The current row of a table that an id names, as a version that is not closed; none where it names none. Takes no
-    /// memory, and looks at no other row.
+    /// Returns the current row of a table with this id, as a version that is not closed; none if there is none.
+    /// Allocates no memory and reads no other row.
     pub fn row(&self, table: TableId, id: usize) -> Option<Version<'_>>
         requires { IsTrue (table_there self.now table) }
         ensures row { option_map version_of result ≡ current_named self.now table id }

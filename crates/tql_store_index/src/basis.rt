@@ -1,4 +1,4 @@
-//! By what rows are found, and what is sought: the rows with given values, or those of a point or a period.
+//! Index definitions, and the lookups that they serve: by column values, by period, or by both.
 ghost use Rattle.std.specs.Prelude.{◌≡◌, ◌↔◌, IsTrue, IfOk, option_map, map};
 ghost use Rattle.tql_spec.specs.Definition.{period_between, point_of as point_for};
 ghost use Rattle.tql_spec.specs.Period.{where_rising, share_a_point};
@@ -15,33 +15,33 @@ use tql_memory::Memory;
 use tql_period::period::Period;
 use tql_value::value::{Value, View};
 
-/// By what rows are found.
+/// An index definition: the key by which an index finds rows.
 #[derive(Drop)]
 pub enum Basis {
-    /// By their values in these columns.
+    /// The values in these columns.
     Values(Vec<usize, Memory>),
-    /// By these, and among rows of the same values by the period from the first column to the second.
+    /// These values and, among rows with the same values, the period from the first column to the second.
     ValuesIn(Vec<usize, Memory>, usize, usize),
-    /// By these, and among rows of the same values by the period that is told beside each row.
+    /// These values and, among rows with the same values, the period that is kept with each row outside its columns.
     ValuesDuring(Vec<usize, Memory>),
-    /// By the period from the first column to the second.
+    /// The period from the first column to the second.
     Period(usize, usize),
 }
 
-/// Which rows are sought.
+/// A lookup: which rows to find.
 #[derive(Clone, Copy)]
 pub enum Sought<'a> {
-    /// Those with these values in these columns; NULL is no value's equal.
+    /// Rows with these values in these columns; NULL equals no value.
     With(&'a [usize], &'a [View<'a>]),
-    /// Of these, those whose period, from the first column to the second, shares a point with this one.
+    /// As `With`, and the row's period, from the first column to the second, shares a point with this one.
     WithIn(&'a [usize], &'a [View<'a>], usize, usize, Period),
-    /// Those whose period, from the first column to the second, holds the point.
+    /// Rows whose period, from the first column to the second, contains the point.
     Holding(usize, usize, i64),
-    /// Those whose period, from the first column to the second, shares a point with this one.
+    /// Rows whose period, from the first column to the second, shares a point with this one.
     Sharing(usize, usize, Period),
 }
 
-/// The point that a value is, in days or microseconds since 1970-01-01; 0 for what is none.
+/// Returns a day or moment as a number of days or microseconds since 1970-01-01; 0 for any other value.
 fn point(value: View<'_>) -> i64
     ensures { result ≡ point_for (datum_of_view value.entry) }
 {
@@ -52,14 +52,14 @@ fn point(value: View<'_>) -> i64
     }
 }
 
-/// The period of a row from one column to another; none where it does not rise.
+/// Returns the period of a row between two columns, or `None` if it does not start before it ends.
 fn period_of_row(start: usize, end: usize, row: &[Value]) -> Option<Period>
     ensures { option_map points_of result ≡ where_rising (period_between (map datum_of_value row.now) start end) }
 {
     Period::new(point(cell(row, start)), point(cell(row, end)))
 }
 
-/// Whether the period of a row from one column to another shares a point with this one.
+/// Whether the period of a row between two columns shares a point with `other`.
 fn shares(start: usize, end: usize, row: &[Value], other: Period) -> bool
     ensures { result ≡ share_a_point (period_between (map datum_of_value row.now) start end) (points_of other) }
 {
@@ -69,7 +69,8 @@ fn shares(start: usize, end: usize, row: &[Value], other: Period) -> bool
     }
 }
 
-/// Where a period stands in the group of a row's values; none where one of them is NULL.
+/// Returns the span of `period` in the group of a row's values, or `None` if one of these values is NULL. Without a
+/// period, the span is the whole group.
 fn span_in(columns: &[usize], row: &[Value], period: Option<Period>) -> Option<Span>
     ensures { option_map span_of result
         ≡ in_values columns.now (map datum_of_value row.now) (fitting_if (option_map points_of period)) }
@@ -80,7 +81,7 @@ fn span_in(columns: &[usize], row: &[Value], period: Option<Period>) -> Option<S
     }
 }
 
-/// Where a period stands by itself, if there is one.
+/// Returns the span of a period by itself, in group 0, if there is a period.
 fn span_alone(period: Option<Period>) -> Option<Span>
     ensures { option_map span_of result ≡ option_map points_of period }
 {
@@ -91,7 +92,7 @@ fn span_alone(period: Option<Period>) -> Option<Span>
 }
 
 impl Basis {
-    /// The same basis once more.
+    /// Returns a copy of this definition, or an error if out of memory.
     pub(crate) fn copy(&self) -> Result<Basis, AllocError>
         ensures { IfOk result (λ b. basis_of b ≡ basis_of self.now) }
     {
@@ -112,7 +113,8 @@ impl Basis {
         }
     }
 
-    /// Under which span a row stands: in the group of its values, none of them NULL, or where its period is.
+    /// Returns the span under which a row is indexed. It is `None` if a key value is NULL, or if the key is a period
+    /// alone that does not start before it ends.
     pub(crate) fn span(&self, row: &[Value], during: Period) -> Option<Span>
         ensures { option_map span_of result
             ≡ stands_by (basis_of self.now) (filed (map datum_of_value row.now) (points_of during)) }
@@ -127,7 +129,7 @@ impl Basis {
         }
     }
 
-    /// Whether the rows that are sought are found by it.
+    /// Whether an index with this definition can answer the lookup.
     pub(crate) fn serves(&self, sought: Sought<'_>) -> bool
         ensures { IsTrue result ↔ Serves (sought_of sought.entry) (basis_of self.now) }
     {
@@ -157,7 +159,7 @@ impl Basis {
 }
 
 impl Sought<'_> {
-    /// Whether a row is sought.
+    /// Whether the lookup matches a row.
     pub fn takes(self, row: &[Value]) -> bool
         ensures { result ≡ is_sought (sought_of self.entry) (map datum_of_value row.now) }
     {

@@ -1,4 +1,4 @@
-//! The values in some columns of a row: whether they are those of a tuple, and the group in which they stand.
+//! Compares the values in some columns of a row with a tuple, and hashes them to the group in which the row is indexed.
 ghost use Rattle.std.specs.Prelude.{◌≡◌, if◌then◌else◌, None, Some, map, option_map};
 ghost use Rattle.std.specs.List.{fold, list_any};
 ghost use Rattle.tql_spec.specs.Truth.{is_true as holds_true};
@@ -17,7 +17,7 @@ use tql_value::comparison::{Comparison, compare};
 use tql_value::truth::Truth;
 use tql_value::value::{Value, View};
 
-/// The value in a column; past the last one, NULL.
+/// Returns the value in a column, or NULL past the last column.
 pub(crate) fn cell(row: &[Value], column: usize) -> View<'_>
     ensures { datum_of_view result ≡ cell_of (map datum_of_value row.now) column }
 {
@@ -27,14 +27,14 @@ pub(crate) fn cell(row: &[Value], column: usize) -> View<'_>
     }
 }
 
-/// Whether two values are equal; NULL is nothing's equal.
+/// Whether two values are equal; NULL equals nothing.
 fn equals(a: View<'_>, b: View<'_>) -> bool
     ensures { result ≡ holds_true (compared Equals (datum_of_view a.entry) (datum_of_view b.entry)) }
 {
     matches!(compare(Comparison::Equal, a, b), Truth::True)
 }
 
-/// Whether the values in these columns of a row are those of the tuple, none of them NULL.
+/// Whether the values in these columns of a row equal those of the tuple; NULL equals nothing.
 pub(crate) fn has_values(columns: &[usize], tuple: &[View<'_>], row: &[Value]) -> bool
     ensures { result ≡ is_at columns.now (map datum_of_view tuple.now) (map datum_of_value row.now) }
 {
@@ -47,14 +47,14 @@ pub(crate) fn has_values(columns: &[usize], tuple: &[View<'_>], row: &[Value]) -
     }
 }
 
-/// A number with one more.
+/// Mixes the number `more` into the hash `number`.
 fn mixed(number: u64, more: u64) -> u64
     ensures { result ≡ mixed_of number more }
 {
     number.wrapping_mul(1_099_511_628_211).wrapping_add(more)
 }
 
-/// A number with these bytes.
+/// Mixes bytes into the hash `number`.
 fn mixed_with_bytes(number: u64, bytes: &[u8]) -> u64
     ensures { result ≡ fold mixed_of number bytes.now }
 {
@@ -65,7 +65,7 @@ fn mixed_with_bytes(number: u64, bytes: &[u8]) -> u64
     mixture
 }
 
-/// A number with one more value.
+/// Mixes a value into the hash `number`.
 fn mixed_with(number: u64, value: View<'_>) -> u64
     ensures { result ≡ mixed_with_of number (datum_of_view value.entry) }
 {
@@ -78,7 +78,7 @@ fn mixed_with(number: u64, value: View<'_>) -> u64
     }
 }
 
-/// A number with the values in these columns of a row.
+/// Mixes the values in these columns of a row into the hash `number`.
 fn digest_of_row(number: u64, columns: &[usize], row: &[Value]) -> u64
     ensures { result ≡ digest number (in_columns columns.now (map datum_of_value row.now)) }
 {
@@ -90,7 +90,7 @@ fn digest_of_row(number: u64, columns: &[usize], row: &[Value]) -> u64
     }
 }
 
-/// A number with the values of a tuple.
+/// Mixes the values of a tuple into the hash `number`.
 fn digest_of_tuple(number: u64, tuple: &[View<'_>]) -> u64
     ensures { result ≡ digest number (map datum_of_view tuple.now) }
 {
@@ -110,8 +110,8 @@ fn has_null(columns: &[usize], row: &[Value]) -> bool
     }
 }
 
-/// The group in which a row stands by its values in these columns; none where one of them is NULL. Rows with the same
-/// values stand in the same one; others may.
+/// Returns the group of a row by its values in these columns, or `None` if one of them is NULL. Rows with the same
+/// values are in the same group; other rows may be in it too.
 pub(crate) fn group_of_row(columns: &[usize], row: &[Value]) -> Option<i64>
     ensures { result ≡ (if list_any null_of (in_columns columns.now (map datum_of_value row.now)) then None
         else Some (group_of (in_columns columns.now (map datum_of_value row.now)))) }
@@ -123,21 +123,21 @@ pub(crate) fn group_of_row(columns: &[usize], row: &[Value]) -> Option<i64>
     }
 }
 
-/// The group in which the rows with the values of this tuple stand.
+/// Returns the group of the rows with the values of this tuple.
 fn group_of_tuple(tuple: &[View<'_>]) -> i64
     ensures { result ≡ group_of (map datum_of_view tuple.now) }
 {
     digest_of_tuple(0, tuple).cast_signed()
 }
 
-/// Where a period stands in a group.
+/// Returns the span of a period in a group.
 fn placed(group: i64, period: Period) -> Span
     ensures { span_of result ≡ in_group group (fitting (points_of period)) }
 {
     Span::within(group, period)
 }
 
-/// Where a period stands in a group; where there is none, all of the group.
+/// Returns the span of a period in a group, or the whole group if there is no period.
 pub(crate) fn placed_if(group: i64, period: Option<Period>) -> Span
     ensures { span_of result ≡ in_group group (fitting_if (option_map points_of period)) }
 {
@@ -147,7 +147,7 @@ pub(crate) fn placed_if(group: i64, period: Option<Period>) -> Span
     }
 }
 
-/// Where a period stands in the group of the values of this tuple; where there is none, all of the group.
+/// Returns the span of a period in the group of the tuple's values, or the whole group if there is no period.
 pub(crate) fn span_of_tuple(tuple: &[View<'_>], period: Option<Period>) -> Span
     ensures { span_of result
         ≡ in_group (group_of (map datum_of_view tuple.now)) (fitting_if (option_map points_of period)) }

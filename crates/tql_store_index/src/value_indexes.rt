@@ -1,4 +1,4 @@
-//! Where rows stand by each of several bases: their values in lists of columns, their application period.
+//! The indexes of a table, one for each index definition (`Basis`).
 ghost use Rattle.std.specs.Prelude.{◌≡◌, ◌≢◌, ◌<◌, ◌≤◌, ◌+◌, ◌==◌, ◌++◌, [], ◌∷◌, All, OnOk, OnErr, IfOk, IfSome};
 ghost use Rattle.std.specs.Prelude.{None, length, map, option_map, slice_set};
 ghost use Rattle.tql_spec.specs.Bag.{SameBag};
@@ -22,7 +22,7 @@ use tql_memory::Memory;
 use tql_period::period::Period;
 use tql_value::value::{Value, View};
 
-/// Where rows stand by one basis.
+/// An index: its definition, and the period under which each row slot is indexed.
 #[derive(Drop)]
 pub struct ValueIndex<I: IntervalIndex> {
     basis: Basis,
@@ -38,7 +38,7 @@ impl<I: IntervalIndex> Model for ValueIndex<I> {
     ghost view = { λ k. record { basis = basis_of k.basis; standing = k.index } };
 }
 
-/// Leaves the rows between two places under nothing. Takes no memory.
+/// Removes the rows at positions `from..to` from the index. Allocates no memory.
 fn unlink_each<I: IntervalIndex>(index: &mut SeatIndex<I>, seats: &Seats, from: usize, to: usize)
     requires rises { from ≤ to }
     requires room { to ≤ length seats.now.seats }
@@ -52,7 +52,7 @@ fn unlink_each<I: IntervalIndex>(index: &mut SeatIndex<I>, seats: &Seats, from: 
 }
 
 impl<I: IntervalIndex> ValueIndex<I> {
-    /// Makes room for so many seats.
+    /// Makes room for at least `seats` row slots.
     fn grow(&mut self, seats: usize) -> Result<(), AllocError>
         ensures grown { IsGrown self.old self.new }
         ensures ok { OnOk result (seats ≤ length self.new.standing) }
@@ -60,7 +60,7 @@ impl<I: IntervalIndex> ValueIndex<I> {
         self.index.grow(seats)
     }
 
-    /// Puts a row where it stands. Refused where memory is, and then nothing is changed.
+    /// Enters a row under its row slot. If out of memory, nothing changes.
     fn enter(&mut self, seat: usize, row: &[Value], during: Period) -> Result<(), AllocError>
         requires there { seat < length self.old.standing }
         requires loose { stands self.old.standing seat ≡ None }
@@ -75,7 +75,7 @@ impl<I: IntervalIndex> ValueIndex<I> {
         self.index.link(seat, span)
     }
 
-    /// Leaves the rows between two places under nothing. Takes no memory.
+    /// Removes the rows at positions `from..to` from the index. Allocates no memory.
     fn leave(&mut self, seats: &Seats, from: usize, to: usize)
         requires rises { from ≤ to }
         requires room { to ≤ length seats.now.seats }
@@ -85,7 +85,8 @@ impl<I: IntervalIndex> ValueIndex<I> {
         unlink_each(&mut self.index, seats, from, to);
     }
 
-    /// The seats of the rows with these values that may be sought.
+    /// Returns the row slots of candidate rows for these values. An index on the period kept with each row uses
+    /// `during`.
     fn seats_with(
         &self,
         columns: &[usize],
@@ -103,8 +104,8 @@ impl<I: IntervalIndex> ValueIndex<I> {
         }
     }
 
-    /// The seats of the rows with these values that may be sought for their period between two columns; where a period
-    /// is told beside the rows, by that one instead.
+    /// Returns the row slots of candidate rows for these values and the period between two columns. An index on the
+    /// period kept with each row uses `during` instead of `period`.
     fn seats_within(
         &self,
         columns: &[usize],
@@ -126,7 +127,8 @@ impl<I: IntervalIndex> ValueIndex<I> {
         }
     }
 
-    /// The seats of the rows that may be sought: all that are, and seldom others.
+    /// Returns the row slots of the candidate rows for a lookup: all rows that match within `during`, and possibly
+    /// others.
     fn seats_of(
         &self,
         sought: Sought<'_>,
@@ -146,7 +148,8 @@ impl<I: IntervalIndex> ValueIndex<I> {
         }
     }
 
-    /// The places of the rows that may be sought: all that are, and seldom others.
+    /// Returns the positions of the candidate rows for a lookup: all rows that match within `during`, and possibly
+    /// others.
     fn find(
         &self,
         seats: &Seats,
@@ -163,7 +166,7 @@ impl<I: IntervalIndex> ValueIndex<I> {
     }
 }
 
-/// Makes room for so many seats in each.
+/// Makes room for at least `seats` row slots in each index.
 fn grow_each<I: IntervalIndex>(
     indexes: &mut [ValueIndex<I>],
     seats: usize,
@@ -178,7 +181,7 @@ fn grow_each<I: IntervalIndex>(
     Ok(())
 }
 
-/// Puts the row of a place where it stands, in each. Refused where memory is, and then it stands in some of them.
+/// Enters the row at a position in each index. If out of memory, only some of the indexes contain it.
 fn enter_each<I: IntervalIndex>(
     indexes: &mut [ValueIndex<I>],
     seats: &Seats,
@@ -203,7 +206,7 @@ fn enter_each<I: IntervalIndex>(
     Ok(())
 }
 
-/// Leaves the rows between two places under nothing, in each. Takes no memory.
+/// Removes the rows at positions `from..to` from each index. Allocates no memory.
 fn leave_each<I: IntervalIndex>(
     indexes: &mut [ValueIndex<I>],
     seats: &Seats,
@@ -221,7 +224,7 @@ fn leave_each<I: IntervalIndex>(
     }
 }
 
-/// Where rows stand by each of several bases.
+/// The indexes of a table, one for each index definition.
 #[derive(Drop)]
 pub struct ValueIndexes<I: IntervalIndex> {
     indexes: Vec<ValueIndex<I>, Memory>,
@@ -237,7 +240,7 @@ impl<I: IntervalIndex> Model for ValueIndexes<I> {
 }
 
 impl<I: IntervalIndex> ValueIndexes<I> {
-    /// No basis.
+    /// Creates an empty list of indexes.
     pub fn new(memory: Memory) -> ValueIndexes<I>
         ensures { result ≡ [] }
     {
@@ -246,15 +249,14 @@ impl<I: IntervalIndex> ValueIndexes<I> {
         }
     }
 
-    /// Whether there is no basis.
+    /// Whether there are no indexes.
     pub fn is_empty(&self) -> bool
         ensures { result ≡ (length self.now == 0) }
     {
         self.indexes.is_empty()
     }
 
-    /// One basis more, behind the others, by which no row stands yet. Refused where memory is, and then nothing is
-    /// changed.
+    /// Adds an index without rows after the others. If out of memory, nothing changes.
     pub fn add(&mut self, memory: Memory, basis: Basis) -> Result<(), AllocError>
         ensures none { All (λ k. k.standing ≡ []) self.old → All (λ k. k.standing ≡ []) self.new }
         ensures ok { OnOk result
@@ -268,7 +270,7 @@ impl<I: IntervalIndex> ValueIndexes<I> {
         Ok(())
     }
 
-    /// The same bases, by which no row stands yet.
+    /// Creates indexes with the same definitions and no rows, or returns an error if out of memory.
     pub fn emptied(&self, memory: Memory) -> Result<ValueIndexes<I>, AllocError>
         ensures { IfOk result (λ k. k ≡ map bare self.now) }
     {
@@ -280,7 +282,7 @@ impl<I: IntervalIndex> ValueIndexes<I> {
         Ok(indexes)
     }
 
-    /// Makes room for so many seats.
+    /// Makes room for at least `seats` row slots in each index.
     pub fn grow(&mut self, seats: usize) -> Result<(), AllocError>
         ensures each { Each IsGrown self.old self.new }
         ensures ok { OnOk result ((i : _) → i < length self.old → seats ≤ length (index_at self.new i).standing) }
@@ -288,7 +290,7 @@ impl<I: IntervalIndex> ValueIndexes<I> {
         grow_each(&mut self.indexes, seats)
     }
 
-    /// Puts the row of a place where it stands by each basis. Refused where memory is, and then it stands by some.
+    /// Enters the row at a position in each index. If out of memory, only some of the indexes contain it.
     pub fn enter(
         &mut self,
         seats: &Seats,
@@ -308,7 +310,7 @@ impl<I: IntervalIndex> ValueIndexes<I> {
         enter_each(&mut self.indexes, seats, place, row, during)
     }
 
-    /// Leaves the rows between two places under nothing, by each basis. Takes no memory.
+    /// Removes the rows at positions `from..to` from each index. Allocates no memory.
     pub fn leave(&mut self, seats: &Seats, from: usize, to: usize)
         requires rises { from ≤ to }
         requires room { to ≤ length seats.now.seats }
@@ -318,9 +320,9 @@ impl<I: IntervalIndex> ValueIndexes<I> {
         leave_each(&mut self.indexes, seats, from, to);
     }
 
-    /// The places of the rows that may be sought: all that are, and seldom others. Where rows are found by their
-    /// values alone, and the index has the period that is told beside each, only those that stood in this one, if
-    /// there is one. None only where no rows stand by a basis for it. Refused where memory is.
+    /// Returns the positions of the candidate rows for a lookup: all rows that match, and possibly others. With
+    /// `during`, an index on the period kept with each row leaves out rows whose period shares no point with it.
+    /// Returns `None` only if no index serves the lookup, and an error if out of memory.
     pub fn find(
         &self,
         seats: &Seats,

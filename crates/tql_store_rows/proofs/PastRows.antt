@@ -1,4 +1,4 @@
--- Rows of closed versions stand by their values and periods, and behind them those of what the open transaction ended.
+-- Rows of closed versions in the indexes by value and period, followed by rows that the open transaction ended.
 use Rattle.std.proofs.Common.{◌≡◌, ℕ, zero, suc, ◌+◌, ◌<◌, ◌≤◌, Bool, true, false, List, [], ◌∷◌, ◌++◌, map, get_or}
 use Rattle.std.proofs.Common.{length, length-append, append-nil, append_assoc, refl, sym, ap, subst, ◌∙◌, arith}
 use Rattle.std.proofs.Common.{inl, inr, take}
@@ -27,14 +27,14 @@ use Rattle.tql_store_rows.specs.TableModel.{TableModel, InTurn}
 use Rattle.tql_versions.specs.Views.{version_of, versions_of}
 use Rattle.tql_versions.specs.declared.kept.Kept.{Kept}
 
--- ---- rows at places
+-- ---- rows at positions
 
--- the version that is read at a place
+-- the version that the code reads at a position
 pub at_read : (ks : List Kept) (i : ℕ) (v : Kept) → i < length ks → v ≡ get_or ks i v
     → version_at (versions_of ks) i ≡ version_of v
 at_read ks i v l read = get_or-map version_of ks i v nothing l ∙ ap version_of (sym read)
 
--- the row that is read at the next place, and the period beside it
+-- the row that the code reads at the next position, with its period attached
 pub place_read : (ks : List Kept) (places : List ℕ) (j : ℕ) (v : Kept) (until : Option ℤ) (now : List Value)
     (x : Period) (none : Filed) → j < length places → get_or places j 0 < length ks
     → v ≡ get_or ks (get_or places j 0) v → now ≡ v.row.items → x ≡ (past_of (ending until (version_of v))).during
@@ -49,7 +49,7 @@ place_read ks places j v until now x none l within read is e =
     cells None w = refl
     cells (Some m) w = refl
 
--- the version there holds a moment
+-- the version there is non-empty
 pub rises_there : (ks : List Kept) (places : List ℕ) (j : ℕ) (v : Kept) (until : Option ℤ) → j < length places
     → get_or places j 0 < length ks → v ≡ get_or ks (get_or places j 0) v
     → All (λ i. Rises (ending until (version_at (versions_of ks) i))) places → Rises (ending until (version_of v))
@@ -62,7 +62,7 @@ at-length until is vs = length-map is (λ i. past_of (ending until (version_at v
 pub pasts-length : (vs : List Version) → length (pasts_of vs) ≡ length vs
 pasts-length vs = length-map vs past_of
 
--- the same rows, told otherwise
+-- the same rows, from equal ends and versions
 pub same_pasts : (a b : Option ℤ) (is : List ℕ) (vs us : List Version)
     → All (λ i. past_of (ending a (version_at vs i)) ≡ past_of (ending b (version_at us i))) is
     → pasts_at a is vs ≡ pasts_at b is us
@@ -72,14 +72,14 @@ same_pasts a b (i ∷ is) vs us h =
     ∙ ap (λ rs. past_of (ending b (version_at us i)) ∷ rs)
     (same_pasts a b is vs us (λ k d l. h (suc k) d (omega (arith, l))))
 
--- and of the versions that are there
+-- without a new end, they are the rows of the versions at these positions
 pub pasts_there : (is : List ℕ) (vs : List Version) → pasts_at None is vs ≡ pasts_of (map (version_at vs) is)
 pasts_there [] vs = refl
 pasts_there (i ∷ is) vs = ap (λ rs. past_of (version_at vs i) ∷ rs) (pasts_there is vs)
 
--- ---- rows come
+-- ---- adding rows
 
--- rows stand behind others, where seats and indexes have grown for them
+-- after the slots and indexes have grown, the new rows are entered after the others
 pub past_entered : (s t : Seating) (old grown new : List ValueIndex) (rows added : List Filed) (n count to : ℕ)
     → length rows ≡ n → length added ≡ count → to ≡ n + count → AreGrown s t
     → length t.seats ≤ max (length s.seats) to → to ≤ length t.seats → Each IsGrown old grown
@@ -90,7 +90,7 @@ past_entered s t old grown new rows added n count to e c f more most room each w
     (subst (λ k. Each (IsComing n k added t) grown new) (sym c) coming)
     (standing_longer s t old grown rows to more most each wide h)
 
--- where they were refused, they have gone again
+-- after a failure, the new rows are removed again
 pub past_refused : (s t : Seating) (old grown now new : List ValueIndex) (rows : List Filed) (n to : ℕ)
     → length rows ≡ n → AreGrown s t → length t.seats ≤ max (length s.seats) to → Each IsGrown old grown
     → ((i : ℕ) → i < length old → to ≤ length (index_at grown i).standing)
@@ -100,9 +100,9 @@ pub past_refused : (s t : Seating) (old grown now new : List ValueIndex) (rows :
 past_refused s t old grown now new rows n to e more most each wide one two gone h =
     standing_back t grown now new rows n to e one two gone (standing_longer s t old grown rows to more most each wide h)
 
--- ---- rows go
+-- ---- removing rows
 
--- with an index there is a seat for each row
+-- if there is an index, each row has a row slot
 seat_each : (s : Seating) (indexes : List ValueIndex) (rows : List Filed) → AreStanding s indexes rows
     → 0 < length indexes → length rows ≤ length s.seats
 seat_each s indexes rows h l =
@@ -112,7 +112,7 @@ none_or_some : (n : ℕ) → (n ≡ 0) ⊎ (0 < n)
 none_or_some zero = inl refl
 none_or_some (suc n) = inr (omega arith)
 
--- what came behind the rows has gone
+-- the rows after a position have been removed
 pub past_left : (s : Seating) (old new : List ValueIndex) (rows more : List Filed) (from cut : ℕ) → length rows ≡ from
     → (length (rows ++ more) ≤ length s.seats → length (rows ++ more) ≤ cut) → Each (IsTurned from cut s) old new
     → ((i : ℕ) → i < length old → AreLoose from cut s (index_at new i).standing) → AreStanding s old (rows ++ more)
@@ -123,7 +123,7 @@ past_left s old new rows more from cut e most turned gone h = elim (none_or_some
       (most (seat_each s old (rows ++ more) h l)) turned gone h
 ]
 
--- nothing came behind them
+-- there were no rows after them
 pub past_alone : (s : Seating) (indexes : List ValueIndex) (rows more : List Filed) (from : ℕ) → length rows ≡ from
     → (length (rows ++ more) ≤ length s.seats → length (rows ++ more) ≤ from) → AreStanding s indexes (rows ++ more)
     → AreStanding s indexes rows
@@ -148,7 +148,7 @@ past-length true current ended closed e =
     ∙ ap (λ n. length closed + n) (at-length None ended current)
 past-length false current ended closed e = absurd (cc)
 
--- versions that have ended, and those that end now, in the versions as they were and as they are
+-- the past rows before a change, with those of the versions that it ends, are the past rows after it
 past_changed : {A : Type 0} (keeps : Bool) (m : ℤ) (removed more : List ℕ) (rows : List (Vec Value A))
     (old new : List Version) (gone : List ℕ) (closed : List Version) → All (λ i. i < length old) gone
     → All (λ i. (version_at old i).end ≡ m) gone → All (λ i. i < length old) more → All (Contains removed) more
@@ -187,7 +187,7 @@ past_changed false m removed more rows old new gone closed low shut within liste
 
 -- ---- the end of a transaction
 
--- what a commit puts behind the closed versions has stood there
+-- the rows that a commit appends to those of the closed versions were entered before
 pub past_kept : (keeps : Bool) (m : ℤ) (current after : List Version) (ended : List ℕ) (closed new : List Version)
     → ((k : ℕ) → times k ended ≤ 1) → new ≡ closed ++ (if keeps then taken m ended current else [])
     → past_rows keeps after [] new ≡ past_rows keeps current ended closed
@@ -198,7 +198,7 @@ past_kept true m current after ended closed new once e =
 past_kept false m current after ended closed new once e =
     ap (λ vs. pasts_of vs ++ []) (e ∙ append-nil closed)
 
--- a rollback leaves the closed versions
+-- after a rollback the past rows are those of the closed versions
 pub past_alone_rows : (keeps : Bool) (current : List Version) (closed : List Version)
     → pasts_of closed ≡ past_rows keeps current [] closed
 past_alone_rows true current closed = sym (append-nil (pasts_of closed))
@@ -215,7 +215,7 @@ past-most false current ended closed =
 count_of : (ks : List Kept) → length (versions_of ks) ≡ length ks
 count_of ks = length-map ks version_of
 
--- no place is noted
+-- no position is recorded as dead
 pub none_behind : (base : ℕ) (dead : List ℕ) → dead ≡ [] → All (λ k. base ≤ k) dead
 none_behind base dead e = subst (All (λ k. base ≤ k)) (sym e) (All-nil (λ k. base ≤ k))
 
@@ -235,7 +235,7 @@ none_stand keeps s t indexes past current closed ended base dead e f all all' no
   behind = none_behind base dead empty;
 }
 
--- what a change ends stands behind what was ended before, told of the versions as they were
+-- the rows that a change ends follow those ended before, in terms of the versions before the change
 pub more_stand : (keeps : Bool) (n m : ℤ) (t : Seating) (past : List ValueIndex) (before versions : List Kept)
     (more places ended : List ℕ) (closed later : List Kept) → n ≡ m → versions ≡ before → places ≡ more → later ≡ closed
     → AreStanding t past (past_rows keeps (versions_of before) ended (versions_of closed)
@@ -253,7 +253,7 @@ more_stand keeps n m t past before versions more places ended closed later at e 
     ∙ sym (ap (λ (ks : List Kept). past_rows keeps (versions_of before) ended (versions_of ks)
     ++ (if keeps then pasts_at (Some m) more (versions_of before) else [])) g)) h
 
--- and of the versions as they are after it
+-- the same, in terms of the versions after the change
 pub change_past : {A : Type 0} (keeps : Bool) (m : ℤ) (h : TableModel) (t : Seating) (past : List ValueIndex)
     (before : List Kept) (new : List Version) (removed : List ℕ) (base : ℕ) (ended all : List ℕ) (closed : List Version)
     (rows : List (Vec Value A)) → InTurn m h → versions_of before ≡ h.current → ended ≡ h.ended
@@ -274,7 +274,7 @@ change_past keeps m h t past before new removed base ended all closed rows turn 
     (All-filter (λ i. nat_lt i base) (Contains removed) removed (λ k d l. Contains-get_or removed k d l)) made
     ∙ sym (ap (λ js. past_rows keeps new js closed) (g ∙ ap (λ js. js ++ below base removed) e))) stand
 
--- what it notes as dead lies behind the rows that were there before
+-- the positions that a change records as dead are not below the base
 pub change_behind : (base : ℕ) (old removed dead : List ℕ) → dead ≡ old ++ from base removed
     → All (λ k. base ≤ k) old → All (λ k. base ≤ k) dead
 change_behind base old removed dead e low = subst (All (λ k. base ≤ k)) (sym e)
@@ -284,7 +284,7 @@ change_behind base old removed dead e low = subst (All (λ k. base ≤ k)) (sym 
     not_low : (k : ℕ) → not (nat_lt k base) ≡ true → base ≤ k
     not_low k h = grind (arith, nat_tests)
 
--- a commit keeps what it closes where it stands
+-- a commit does not move the entries of the versions that it closes
 pub commit_past : (keeps : Bool) (m n : ℤ) (h : TableModel) (t : Seating) (past : List ValueIndex)
     (current opened : List Kept) (after : List Version) (ended again none : List ℕ) (closed new : List Kept)
     → InTurn m h → opened ≡ current → ended ≡ h.ended → again ≡ h.ended → none ≡ []
@@ -299,7 +299,7 @@ commit_past keeps m n h t past current opened after ended again none closed new 
     ∙ ap (λ (ks : List Kept). versions_of closed ++ (if keeps then taken n h.ended (versions_of ks) else [])) same)
     ∙ sym (ap (λ js. past_rows keeps (versions_of current) js (versions_of closed)) is))) stand
 
--- a rollback takes out what stands behind the closed ones
+-- a rollback removes the entries after those of the closed versions
 pub rollback_past : (keeps : Bool) (t : Seating) (past left : List ValueIndex) (current after : List Version)
     (ended none : List ℕ) (closed : List Kept) (from to : ℕ) → from ≡ length closed → to ≡ from + length ended
     → none ≡ []
@@ -315,13 +315,13 @@ rollback_past keeps t past left current after ended none closed from to e f nil 
     (pasts-length (versions_of closed) ∙ count_of closed ∙ sym e)
     (let n = past-most keeps current ended (versions_of closed) in omega (arith, n, count_of closed, e, f)) stand)
 
--- the number of the next row that is ended
+-- the number of the next ended row
 pub next_number : (closed later : List Kept) (ended more : List ℕ) (a b : ℕ) → later ≡ closed → more ≡ ended
     → a ≡ length later → b ≡ length more → a + b ≡ length closed + length ended
 next_number closed later ended more a b e f g h =
     let l = ap length e in let m = ap length f in omega (arith, l, m, g, h)
 
--- how many stand before a change enters more
+-- the number of past rows before a change adds more
 pub past_size : (keeps : Bool) (current : List Version) (ended : List ℕ) (closed : List Kept) (number : ℕ)
     → number ≡ length closed + length ended → keeps ≡ true
     → length (past_rows keeps current ended (versions_of closed)) ≡ number
@@ -338,7 +338,7 @@ past_filled keeps t past current ended closed number e h k = record {
   standing = h;
 }
 
--- a change that is refused leaves what stood
+-- a failed change leaves the rows entered as they were
 pub refused_stand : (keeps : Bool) (s t : Seating) (indexes past : List ValueIndex)
     (before current closed later : List Kept) (ended cut : List ℕ) (base : ℕ) (dead left : List ℕ)
     → current ≡ before → later ≡ closed → cut ≡ ended → left ≡ dead
@@ -355,7 +355,7 @@ refused_stand keeps s t indexes past before current closed later ended cut base 
       ∙ ap (λ ks. past_rows keeps (versions_of before) ended (versions_of ks)) f)) i;
 }
 
--- what was noted behind others is cut off again
+-- cutting a list back to its old length restores it
 pub cut_back : (all old new left : List ℕ) (n : ℕ) → all ≡ old ++ new → n ≡ length old → left ≡ take n all
     → left ≡ old
 cut_back all old new left n e f g = g ∙ ap (λ k. take k all) f ∙ ap (take (length old)) e ∙ front old
@@ -364,7 +364,7 @@ cut_back all old new left n e f g = g ∙ ap (λ k. take k all) f ∙ ap (take (
     front [] = refl
     front (x ∷ xs) = ap (λ ys. x ∷ ys) (front xs)
 
--- the versions after a change, told of those before it
+-- the versions after a change, in terms of those before it
 pub made_of : {A : Type 0} (n m : ℤ) (removed : List ℕ) (old before : List Kept) (vs new : List Version)
     (rows : List (Vec Value A)) → n ≡ m → old ≡ before → versions_of before ≡ vs
     → new ≡ closing n removed (versions_of old) ++ map (λ row. fresh n (map datum_of_value row.items)) rows

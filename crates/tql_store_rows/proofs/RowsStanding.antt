@@ -1,4 +1,4 @@
--- Rows stand by their values, when they come, when they go, and when they are moved.
+-- Index entries of current rows when rows are added, removed and moved.
 use Rattle.std.proofs.Common.{◌≡◌, ℕ, zero, suc, ◌+◌, ◌-◌, ◌<◌, ◌≤◌, Bool, true, false, List, [], ◌∷◌, ◌++◌, map}
 use Rattle.std.proofs.Common.{get_or, set, take, drop, length, length-append, refl, sym, ap, subst, ◌∙◌, arith, inl}
 use Rattle.std.proofs.Common.{inr}
@@ -39,7 +39,7 @@ rows-length vs = length-map vs (λ (v : Version). filed v.row.cells whole)
 all-length : (basis : Basis) (rows : List Filed) → length (all_of basis rows) ≡ length rows
 all-length basis rows = length-map rows (stands_by basis)
 
--- ---- no row
+-- ---- no rows
 
 pub standing_none : (s : Seating) (indexes : List ValueIndex) → s ≡ record { seats = []; places = [] }
     → All (λ (k : ValueIndex). k.standing ≡ []) indexes → AreStanding s indexes []
@@ -54,12 +54,12 @@ standing_none s indexes e h = rw e (record {
       };
 })
 
--- without indexes nothing has to stand
+-- without indexes, nothing has to be entered
 pub standing_nil : (s : Seating) (indexes : List ValueIndex) (rows : List Filed) → length indexes ≡ 0
     → AreStanding s indexes rows
 standing_nil s indexes rows e = record { each = λ i l. absurd (omega (arith, e, l)) }
 
--- with one there is a seat for each row
+-- with an index, each row has a row slot
 pub shut_room : (s : Seating) (indexes after : List ValueIndex) (ks : List Kept) → length after ≡ length indexes
     → AreStanding s indexes (rows_of (versions_of ks)) → 0 < length after → length ks ≤ length s.seats
 shut_room s indexes after ks e h l =
@@ -107,13 +107,13 @@ grown_none s = record {
   fresh = λ k l m. absurd (omega (arith, l, m));
 }
 
--- where the indexes alone have grown
+-- only the indexes have grown
 pub standing_wider : (s : Seating) (old new : List ValueIndex) (rows : List Filed) → Each IsGrown old new
     → AreStanding s old rows → AreStanding s new rows
 standing_wider s old new rows e h = standing_grown s s old new rows (grown_none s) e
     (λ i l. let a = (h.each i l).wide in let b = (e.1 i l).longer in omega (arith, a, b)) h
 
--- where the seats have too
+-- the row slots have grown, too
 pub standing_longer : (s t : Seating) (old new : List ValueIndex) (rows : List Filed) (to : ℕ) → AreGrown s t
     → length t.seats ≤ max (length s.seats) to → Each IsGrown old new
     → ((i : ℕ) → i < length old → to ≤ length (index_at new i).standing) → AreStanding s old rows
@@ -121,7 +121,7 @@ pub standing_longer : (s t : Seating) (old new : List ValueIndex) (rows : List F
 standing_longer s t old new rows to g most e wide h = standing_grown s t old new rows g e
     (λ i l. let a = (h.each i l).wide in let b = (e.1 i l).longer in let c = wide i l in omega (arith, a, b, c, most)) h
 
--- ---- rows come
+-- ---- adding rows
 
 past_is : (basis : Basis) (rows : List Filed) (j : ℕ) (none : Filed) → j < length rows
     → stands (all_of basis rows) j ≡ stands_by basis (get_or rows j none)
@@ -139,7 +139,7 @@ coming_none from rows s indexes = (
   },
 )
 
--- places that lie one behind the other
+-- two adjacent ranges of positions
 turned_on : (from j n : ℕ) (s : Seating) (old now new : ValueIndex) → j < n → IsTurned from (from + j) s old now
     → IsTurned (from + j) (from + j + 1) s now new → IsTurned from (from + n) s old new
 turned_on from j n s old now new l a t = record {
@@ -172,7 +172,7 @@ coming_one from j rows s old now new row none room l read t is a = record {
   ];
 }
 
--- one row more has come to each
+-- one more row has been entered in each index
 pub all_coming : (from j : ℕ) (rows : List Filed) (s : Seating) (old now new : List ValueIndex) (row none : Filed)
     → from + j < length s.seats → j < length rows → row ≡ get_or rows j none
     → Each (IsTurned (from + j) (from + j + 1) s) now new
@@ -187,7 +187,7 @@ all_coming from j rows s old now new row none room l read t is a = (
       (is i n) (a.1 i m),
 )
 
--- it was refused to some
+-- it was not entered in some of them
 pub all_stopped : (from j n : ℕ) (rows : List Filed) (s : Seating) (old now new : List ValueIndex) → j < n
     → Each (IsTurned (from + j) (from + j + 1) s) now new → Each (IsComing from j rows s) old now
     → Each (IsTurned from (from + n) s) old new
@@ -198,7 +198,7 @@ all_stopped from j n rows s old now new l t a = (
       turned_on from j n s (index_at old i) (index_at now i) (index_at new i) l (a.1 i m).turned (t.1 i o),
 )
 
--- the row that is read
+-- the row that the code reads
 pub cells_read : {A : Type 0} (rows items : List (Vec Value A)) (j : ℕ) (r : Vec Value A) (now : List Value)
     (none : Filed) → j < length items → items ≡ rows → r ≡ get_or items j r → now ≡ r.items
     → filed (map datum_of_value now) whole ≡ get_or (cells_of rows) j none
@@ -208,7 +208,7 @@ cells_read rows items j r now none l e read is =
     ∙ sym (get_or-map (λ (v : Vec Value _). filed (map datum_of_value v.items) whole) items j r none l)
     ∙ ap (λ rs. get_or (cells_of rs) j none) e
 
--- the next place is still under nothing
+-- the slot of the next position is still empty in each index
 pub still_loose : (from j : ℕ) (rows : List Filed) (s : Seating) (old now : List ValueIndex) → from + j < length s.seats
     → ((i : ℕ) → i < length old → AreLoose from (length s.seats) s (index_at old i).standing)
     → Each (IsComing from j rows s) old now → (i : ℕ) → i < length now
@@ -217,7 +217,7 @@ still_loose from j rows s old now room loose a i l =
     let m : i < length old = let e = a.0 in omega (arith, e, l) in
     (a.1 i m).turned.differs.others (from + j) room (inr (omega arith)) ∙ loose i m (from + j) (omega arith) room
 
--- and there is room for it
+-- and each index has room for it
 pub still_wide : (from j : ℕ) (rows : List Filed) (s : Seating) (old now : List ValueIndex)
     → ((i : ℕ) → i < length old → length s.seats ≤ length (index_at old i).standing)
     → Each (IsComing from j rows s) old now → (i : ℕ) → i < length now
@@ -226,7 +226,7 @@ still_wide from j rows s old now wide a i l =
     let m : i < length old = let e = a.0 in omega (arith, e, l) in
     let w = wide i m in let d = (a.1 i m).turned.differs.even in omega (arith, w, d)
 
--- all have come
+-- all rows have been entered
 pub all_turned : (from n : ℕ) (rows : List Filed) (s : Seating) (old new : List ValueIndex)
     → Each (IsComing from n rows s) old new → Each (IsTurned from (from + n) s) old new
 all_turned from n rows s old new a = (a.0, λ i l. (a.1 i l).turned)
@@ -281,7 +281,7 @@ kept-rows : (ks : List Kept) → length (rows_of (versions_of ks)) ≡ length ks
 kept-rows [] = refl
 kept-rows (k ∷ ks) = ap suc (kept-rows ks)
 
--- rows come, where seats and indexes have grown for them
+-- after the slots and indexes have grown, the new rows are entered
 pub standing_entered : {A : Type 0} (s t : Seating) (old grown new : List ValueIndex) (ks : List Kept)
     (added : List (Vec Value A)) (from to : ℕ) → length ks ≡ from → to ≡ from + length added → AreGrown s t
     → length t.seats ≤ max (length s.seats) to → to ≤ length t.seats → Each IsGrown old grown
@@ -294,7 +294,7 @@ standing_entered s t old grown new ks added from to e f more most room each wide
     (subst (λ n. Each (IsComing from n (cells_of added) t) grown new) (sym (cells-length added)) coming)
     (standing_longer s t old grown (rows_of (versions_of ks)) to more most each wide h)
 
--- the seats behind the rows are loose
+-- the slots after the rows are empty
 pub loose_behind : (s : Seating) (indexes : List ValueIndex) (rows : List Filed) (from : ℕ) → length rows ≡ from
     → AreStanding s indexes rows → (i : ℕ) → i < length indexes
     → AreLoose from (length s.seats) s (index_at indexes i).standing
@@ -306,7 +306,7 @@ pub wide_enough : (s : Seating) (indexes : List ValueIndex) (rows : List Filed) 
     → i < length indexes → length s.seats ≤ length (index_at indexes i).standing
 wide_enough s indexes rows h i l = (h.each i l).wide
 
--- ---- rows go
+-- ---- removing rows
 
 go_key : (what next : List (Option Period)) (from to : ℕ) (s : Seating) (old new : List (Option Period))
     → length next ≤ length s.seats → ((k : ℕ) → (k < from) ⊎ (to ≤ k) → stands next k ≡ stands what k)
@@ -333,7 +333,7 @@ differs_twice from to s xs ys zs a b = record {
   beyond = λ seat l. b.beyond seat l ∙ a.beyond seat l;
 }
 
--- what came behind the rows in part has gone again
+-- rows of which some were entered after the others have been removed again
 pub standing_back : (s : Seating) (old now new : List ValueIndex) (rows : List Filed) (from to : ℕ) → length rows ≡ from
     → Each (IsTurned from to s) old now → Each (IsTurned from to s) now new
     → ((i : ℕ) → i < length now → AreLoose from to s (index_at new i).standing) → AreStanding s old rows
@@ -352,7 +352,7 @@ standing_back s old now new rows from to e a b gone h = record {
       (a.1 i n).differs (b.1 i m).differs) (gone i m) (h.each i n));
 }
 
--- rows behind others have gone
+-- the rows after a position have been removed
 pub standing_less : (s : Seating) (old new : List ValueIndex) (rows more all : List Filed) (from to : ℕ)
     → length rows ≡ from
     → all ≡ rows ++ more → length all ≤ to → Each (IsTurned from to s) old new
@@ -400,9 +400,9 @@ standing_front s old new ks from to l m turned gone h =
     (rows_of (versions_of ks)) from to (front-length from ks l) (rows-parts from ks)
     (omega (arith, m, kept-rows ks)) turned gone h
 
--- ---- closed versions are left
+-- ---- removing the rows of closed versions
 
--- nothing is left where no closed version stands
+-- nothing is removed if there is no closed version
 pub shut_none : (vs : List Version) (s : Seating) (p : ℕ) (k : ValueIndex) → (IsShutAt vs p → ⊥)
     → IsShut vs s (p ∷ []) k k
 shut_none vs s p k f = record {
@@ -417,7 +417,7 @@ shut_none vs s p k f = record {
     only (zero, l, e) = e
     only (suc i, l, e) = absurd (omega (arith, l))
 
--- the seat of a closed version is
+-- the row of a closed version is removed
 pub shut_one : (vs : List Version) (s : Seating) (p : ℕ) (old new : ValueIndex) → IsShutAt vs p
     → IsTurned p (p + 1) s old new → AreLoose p (p + 1) s new.standing → IsShut vs s (p ∷ []) old new
 shut_one vs s p old new h t gone = record {
@@ -444,7 +444,7 @@ shut_one vs s p old new h t gone = record {
     only (zero, l, e) = e
     only (suc i, l, e) = absurd (omega (arith, l))
 
--- no place is looked at
+-- no positions at all
 pub shut_start : (vs : List Version) (s : Seating) (k : ValueIndex) → IsShut vs s [] k k
 shut_start vs s k = record {
   basis = refl;
@@ -457,7 +457,7 @@ shut_start vs s k = record {
     nowhere : {j : ℕ} → Contains [] j → ⊥
     nowhere (i, l, e) = omega (arith, l)
 
--- first some places, then others
+-- first some positions, then others
 shut_both : (vs : List Version) (s : Seating) (is js : List ℕ) (a b c : ValueIndex) → length vs ≤ length s.seats
     → IsShut vs s is a b → IsShut vs s js b c → IsShut vs s (is ++ js) a c
 shut_both vs s is js a b c room h g = record {
@@ -488,7 +488,7 @@ shut_each vs s is js a b c room h g = (
       h.0 in omega (arith, e, l))),
 )
 
--- each key by itself
+-- each index on its own
 pub each_same : (R : ValueIndex → ValueIndex → Type 0) (indexes : List ValueIndex) → ((k : ValueIndex) → R k k)
     → Each R indexes indexes
 each_same R indexes f = (refl, λ i l. f (index_at indexes i))
@@ -498,7 +498,7 @@ pub each_other : (P Q : ValueIndex → ValueIndex → Type 0) (old new : List Va
     → Each Q old new
 each_other P Q old new h f = (h.0, λ i l. f i l (h.1 i l))
 
--- one place more
+-- one more position
 pub shut_step : (vs : List Version) (s : Seating) (places : List ℕ) (j : ℕ) (a b c : List ValueIndex)
     → length vs ≤ length s.seats → j < length places → Each (IsShut vs s (take j places)) a b
     → Each (IsShut vs s (get_or places j 0 ∷ [])) b c → Each (IsShut vs s (take (j + 1) places)) a c
@@ -506,7 +506,7 @@ shut_step vs s places j a b c room l h g =
     subst (λ (is : List ℕ). Each (IsShut vs s is) a c) (sym (take_more places j 0 l))
     (shut_each vs s (take j places) (get_or places j 0 ∷ []) a b c (λ m. room) h g)
 
--- the next place, as it is read
+-- the next position, as the code reads it
 pub shut_stepped : (ks ls : List Kept) (s : Seating) (places ps : List ℕ) (j p : ℕ) (a b c : List ValueIndex)
     → length ks ≤ length s.seats → j < length ps → ps ≡ places → ls ≡ ks → p ≡ get_or ps j 0
     → Each (IsShut (versions_of ks) s (take j places)) a b → Each (IsShut (versions_of ls) s (p ∷ [])) b c
@@ -517,7 +517,7 @@ shut_stepped ks ls s places ps j p a b c room l e f g h i =
     (subst (λ (q : ℕ). Each (IsShut (versions_of ks) s (q ∷ [])) b c) (g ∙ ap (λ (qs : List ℕ). get_or qs j 0) e)
     (subst (λ (ms : List Kept). Each (IsShut (versions_of ms) s (p ∷ [])) b c) f i))
 
--- ---- only what passes a test stands
+-- ---- only versions that pass a test are entered
 
 held-length : (test : Version → Bool) (basis : Basis) (vs : List Version) → length (held_of test basis vs) ≡ length vs
 held-length test basis vs = length-map vs (held_in test basis)
@@ -541,12 +541,12 @@ all_held test basis v t = ap (λ (b : Bool). if b then stands_ever basis v.row.c
 none_held : (test : Version → Bool) (basis : Basis) (v : Version) → test v ≡ false → held_in test basis v ≡ None
 none_held test basis v f = ap (λ (b : Bool). if b then stands_ever basis v.row.cells else None) f
 
--- a version passes the test and is left alone, or it does not and is closed and listed
+-- a version passes the test and, if listed, is open; or it fails, and is closed and listed
 abbrev pub IsTold : (Version → Bool) → List Version → List ℕ → ℕ → Type 0
 IsTold test vs is k = ((test (version_at vs k) ≡ true) × (Contains is k → is_current (version_at vs k) ≡ true))
     ⊎ ((test (version_at vs k) ≡ false) × (IsShutAt vs k × Contains is k))
 
--- the seats of those that do not pass have been left
+-- the rows of the versions that fail the test have been removed
 pub standing_left : (test : Version → Bool) (s : Seating) (indexes new : List ValueIndex) (vs : List Version)
     (is : List ℕ) → Each (IsShut vs s is) indexes new → ((k : ℕ) → k < length vs → IsTold test vs is k)
     → AreStanding s indexes (rows_of vs) → AreHeld test s new vs
@@ -586,7 +586,7 @@ standing_left test s indexes new vs is shut told h = record {
         → stands (index_at new i).standing (seat_at s k) ≡ stands (index_at indexes i).standing (seat_at s k)
     same i k x o f = elim (x.kept k o) [ inl e ↦ e | inr e ↦ absurd (f e.0 e.1.0) ]
 
--- ---- closed versions are taken out of their places
+-- ---- removing closed versions from their positions
 
 set_none : {X : Type 0} (xs : List (Option X)) (k : ℕ) → get_or xs k None ≡ None → set xs k None ≡ xs
 set_none [] k h = refl
@@ -638,7 +638,7 @@ standing_emptied s indexes true m is vs us f shut e h = rw e (record {
 })
 standing_emptied s indexes false m is vs us f shut e h = rw e h
 
--- ---- a closed version gives its place to the last one
+-- ---- the last version replaces a closed one
 
 held_here : (test : Version → Bool) (basis : Basis) (ks : List Kept) (k : ℕ) (d : Kept) → k < length ks
     → stands (held_of test basis (versions_of ks)) k ≡ held_in test basis (version_of (get_or ks k d))
@@ -651,7 +651,7 @@ kept-length : (test : Version → Bool) (basis : Basis) (ks : List Kept)
 kept-length test basis [] = refl
 kept-length test basis (k ∷ ks) = ap suc (kept-length test basis ks)
 
--- what a list without a place is
+-- a list after the removal of a position, which the last element takes
 pub record IsDropped (old new : List Kept) (p : ℕ) : Type 0 where
   pub size : length new + 1 ≡ length old
   pub there : (d : Kept) → p + 1 < length old → get_or new p d ≡ get_or old (length old - 1) d
@@ -737,13 +737,13 @@ linked_dropped test basis standing s t old new p last r within is swaps size rea
     beyond_new : (k : ℕ) → k ≢ last → last ≤ k → length (held_of test basis (versions_of new)) ≤ k
     beyond_new k g a = omega (arith, a, is, size, kept-length test basis new)
 
--- a closed version that is read twice
+-- a closed version that the code reads twice
 pub shut_read : (ks : List Kept) (p : ℕ) (r v : Kept) → p < length ks → v ≡ get_or ks p v
     → is_current (version_of v) ≡ false → r ≡ get_or ks p r → is_current (version_of r) ≡ false
 shut_read ks p r v l read shut again =
     ap (λ x. is_current (version_of x)) (again ∙ get_or_default ks p r v l ∙ sym read) ∙ shut
 
--- the version that is read at a place
+-- the closed version that the code reads at a position
 pub read_at : (ks : List Kept) (p : ℕ) (v : Kept) → p < length ks → v ≡ get_or ks p v
     → is_current (version_of v) ≡ false → IsShutAt (versions_of ks) p
 read_at ks p v l read shut = (
@@ -752,7 +752,7 @@ read_at ks p v l read shut = (
       (get_or-map version_of ks p v nothing l ∙ ap version_of (sym read)) ∙ shut,
 )
 
--- ---- and so all that is left stands
+-- ---- all remaining rows are entered
 
 held_all : (test : Version → Bool) (basis : Basis) (vs : List Version)
     → ((k : ℕ) → k < length vs → test (version_at vs k) ≡ true)

@@ -1,4 +1,4 @@
--- Where the rows of a table stand by each of its bases.
+-- Where the rows of a table are entered in each of its indexes.
 use Rattle.std.specs.Prelude.{◌≡◌, ℕ, ◌+◌, ◌<◌, ◌≤◌, ◌⊎◌, false, if◌then◌else◌, List, [], ◌++◌, map, length}
 use Rattle.std.specs.Prelude.{All, Bool, Option, Some, None, filter, ℤ, ◌<ℤ◌}
 use Rattle.std.specs.Prelude.{Contains, Vec}
@@ -16,89 +16,89 @@ use Rattle.tql_store_index.specs.ValueIndexes.{ValueIndex, index_at, IsLinked, I
 use Rattle.tql_versions.specs.Changes.{ended, is_current}
 use Rattle.tql_versions.specs.Places.{version_at}
 
--- the cells of versions, and beside them every moment
+-- the rows of versions, each with the period of all moments attached
 abbrev pub rows_of : List Version → List Filed
 rows_of vs = map (λ (v : Version). filed v.row.cells whole) vs
 
--- the cells of rows that come, and beside them every moment
+-- new rows, each with the period of all moments attached
 abbrev pub cells_of : {A : Type 0} → List (Vec Value A) → List Filed
 cells_of rows = map (λ row. filed (map datum_of_value row.items) whole) rows
 
--- the cells of a version, and beside them its period
+-- the row of a version, with its period attached
 abbrev pub past_of : Version → Filed
 past_of v = filed v.row.cells (record { start = v.row.start; end = v.end })
 
 abbrev pub pasts_of : List Version → List Filed
 pasts_of vs = map past_of vs
 
--- a version once it ends at a moment, if there is one
+-- a version with its end set to a moment, if one is given
 abbrev pub ending : Option ℤ → Version → Version
 ending None v = v
 ending (Some m) v = ended m v
 
--- those of the versions at these places, once they have ended
+-- the rows of the versions at these positions, once they have ended
 abbrev pub pasts_at : Option ℤ → List ℕ → List Version → List Filed
 pasts_at until is vs = map (λ i. past_of (ending until (version_at vs i))) is
 
--- it holds a moment
+-- a version is non-empty
 abbrev pub Rises : Version → Type 0
 Rises v = v.row.start <ℤ v.end
 
--- under what a row stands beside which every moment is told
+-- the index span of a row with the period of all moments attached
 abbrev pub stands_ever : Basis → Row → Option Period
 stands_ever basis row = stands_by basis (filed row whole)
 
--- under what rows stand, place by place
+-- the index spans of rows, by position
 abbrev pub all_of : Basis → List Filed → List (Option Period)
 all_of basis rows = map (stands_by basis) rows
 
--- under what a version stands that passes a test
+-- the index span of a version that passes a test; none if it does not
 abbrev pub held_in : (Version → Bool) → Basis → Version → Option Period
 held_in test basis v = if test v then stands_ever basis v.row.cells else None
 
--- under what those stand that pass it
+-- the index spans of versions, none for versions that fail the test
 abbrev pub held_of : (Version → Bool) → Basis → List Version → List (Option Period)
 held_of test basis vs = map (held_in test basis) vs
 
--- each row stands, in its seat, where each basis puts it
+-- each row is entered, at its row slot, under the span that each index definition gives
 pub record AreStanding (s : Seating) (indexes : List ValueIndex) (rows : List Filed) : Type 0 where
   pub each : (i : ℕ) → i < length indexes
       → IsLinked (all_of (index_at indexes i).basis rows) s (index_at indexes i).standing
 
--- so many rows stand
+-- `n` rows are entered
 pub record IsFilled (n : ℕ) (s : Seating) (indexes : List ValueIndex) : Type 0 where
   pub rows : List Filed
   pub size : length rows ≡ n
   pub standing : AreStanding s indexes rows
 
--- the rows of closed versions, and behind them those of what the open transaction ended, where the history is kept;
--- beside each the period of its version
+-- the rows of closed versions, then, if the history is kept, of versions ended by the open transaction; each row has
+-- the period of its version attached
 abbrev pub past_rows : Bool → List Version → List ℕ → List Version → List Filed
 past_rows keeps current ended closed = pasts_of closed ++ (if keeps then pasts_at None ended current else [])
 
--- each current row stands, and each past one; what the open transaction added and ended is none of the rows that were
--- there before
+-- every current row is entered, and every past one; the positions of versions that the open transaction added and ended
+-- are not below the base
 pub record AllStand (keeps : Bool) (s : Seating) (indexes : List ValueIndex) (t : Seating) (past : List ValueIndex)
     (current : List Version) (ended : List ℕ) (closed : List Version) (base : ℕ) (dead : List ℕ) : Type 0 where
   pub current_ones : AreStanding s indexes (rows_of current)
   pub past_ones : AreStanding t past (past_rows keeps current ended closed)
   pub behind : All (λ k. base ≤ k) dead
 
--- only those that pass a test do
+-- only the versions that pass a test are entered
 pub record AreHeld (test : Version → Bool) (s : Seating) (indexes : List ValueIndex) (vs : List Version) : Type 0 where
   pub each : (i : ℕ) → i < length indexes
       → IsLinked (held_of test (index_at indexes i).basis vs) s (index_at indexes i).standing
 
--- so many of the rows have come, the first to a place
+-- the first `j` of the rows have been entered, the first at position `from`
 pub record IsComing (from j : ℕ) (rows : List Filed) (s : Seating) (old new : ValueIndex) : Type 0 where
   pub turned : IsTurned from (from + j) s old new
   pub came : (i : ℕ) → i < j → stands new.standing (seat_at s (from + i)) ≡ stands (all_of old.basis rows) i
 
--- a closed version stands at a place
+-- there is a closed version at a position
 abbrev pub IsShutAt : List Version → ℕ → Type 0
 IsShutAt vs k = (k < length vs) × (is_current (version_at vs k) ≡ false)
 
--- the seats of the closed versions at the places listed have been left under nothing
+-- the rows of closed versions at the listed positions have been removed from the index; all other slots are unchanged
 pub record IsShut (vs : List Version) (s : Seating) (places : List ℕ) (old new : ValueIndex) : Type 0 where
   pub basis : new.basis ≡ old.basis
   pub even : length new.standing ≡ length old.standing
@@ -108,19 +108,20 @@ pub record IsShut (vs : List Version) (s : Seating) (places : List ℕ) (old new
       ⊎ (Contains places k × (IsShutAt vs k × (stands new.standing (seat_at s k) ≡ None)))
   pub gone : (k : ℕ) → Contains places k → IsShutAt vs k → stands new.standing (seat_at s k) ≡ None
 
--- a version stands at a place from a number on
+-- a version is at some position from a number on
 pub record StandsFrom (n : ℕ) (vs : List Version) (v : Version) : Type 0 where
   pub place : ℕ
   pub from : n ≤ place
   pub within : place < length vs
   pub here : v ≡ version_at vs place
 
--- no version that is closed passes a test, from a place on
+-- no closed version at or after a position passes a test
 abbrev pub FailsShut : ℕ → (Version → Bool) → List Version → Type 0
 FailsShut n test vs = (k : ℕ) → n ≤ k → IsShutAt vs k → test (version_at vs k) ≡ false
 
--- closed versions have gone from places from a number on, and others of these have come there with their seats; what
--- passes a test that no closed one passes is all there, and stands where it did
+-- some closed versions at or after position `n` have been removed, and others from there on were moved into their
+-- positions with their row slots. For a test that no closed one passes, all passing versions are still there, with
+-- their index spans.
 pub record IsLess (n : ℕ) (old new : List Version) (s t : Seating) : Type 0 where
   pub shorter : length new ≤ length old
   pub based : n ≤ length old → n ≤ length new

@@ -1,4 +1,4 @@
-//! Closed versions taken out of their places.
+//! Removal of closed versions from the current ones.
 ghost use Rattle.std.specs.Prelude.{◌≡◌, ◌≢◌, ◌≤◌, ◌<◌, ◌+◌, All, false, length, slice_index_or, Contains};
 ghost use Rattle.std.specs.List.{swap_remove};
 ghost use Rattle.tql_store_rows.specs.RowsStanding.{IsLess};
@@ -9,7 +9,7 @@ use tql_memory::Memory;
 use tql_store_index::seats::Seats;
 use tql_versions::kept::{Kept, is_open};
 
-/// Takes a version out of its place, where the last one comes with its seat.
+/// Removes and returns the version at a position; the last version moves there with its row slot.
 fn drop_version(versions: &mut Vec<Kept, Memory>, seats: &mut Seats, place: usize) -> Kept
     requires { place < length versions.old.items }
     ensures value { result ≡ slice_index_or versions.old.items place result }
@@ -25,7 +25,7 @@ fn drop_version(versions: &mut Vec<Kept, Memory>, seats: &mut Seats, place: usiz
     versions.swap_remove(place)
 }
 
-/// Takes closed versions out of a place until an open one stands there, or none.
+/// Removes versions from a position until an open one is there, or none.
 fn clear_place(versions: &mut Vec<Kept, Memory>, seats: &mut Seats, place: usize)
     ensures clear { place < length versions.new.items → open_at versions.new.items place }
     ensures shorter { length versions.new.items ≤ length versions.old.items }
@@ -39,7 +39,7 @@ fn clear_place(versions: &mut Vec<Kept, Memory>, seats: &mut Seats, place: usize
     }
 }
 
-/// Takes the closed versions out of these places.
+/// Removes the closed versions at these positions.
 pub fn sweep(versions: &mut Vec<Kept, Memory>, seats: &mut Seats, places: &[usize])
     ensures shorter { length versions.new.items ≤ length versions.old.items }
     ensures left { (k : _) → k < length versions.new.items → (Contains places.now k → open_at versions.new.items k)

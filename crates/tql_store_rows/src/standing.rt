@@ -1,4 +1,4 @@
-//! Rows put where they stand by their values and by their period, and taken away.
+//! Current rows in the indexes by value and by application period: adding and removing them.
 ghost use Rattle.std.specs.Prelude.{◌≡◌, ◌<◌, ◌≤◌, ◌+◌, ◌^◌, ◌++◌, [], ◌∷◌, All, OnOk, OnErr, IfOk, length, take};
 ghost use Rattle.std.specs.Prelude.{vec_len};
 ghost use Rattle.tql_store_index.specs.ValueIndexes.{AreLoose, Each, IsTurned, index_at};
@@ -15,13 +15,13 @@ use tql_store_index::value_indexes::ValueIndexes;
 use tql_value::value::Value;
 use tql_versions::kept::{Kept, is_open};
 
-/// Every moment and day: what is told beside a row that stands now, where nothing is found by it.
+/// Every moment and day: the period attached to a current row. No index of current rows uses it.
 const EVER: Period = Period {
     start: i64::MIN,
     end: i64::MAX,
 };
 
-/// The basis for these columns: with the period from the first of two columns to the second, if there are two.
+/// Returns the index definition for these columns, with the period between two more columns if given.
 fn basis_for(columns: Vec<usize, Memory>, application: Option<(usize, usize)>) -> Basis {
     match application {
         Some((start, end)) => Basis::ValuesIn(columns, start, end),
@@ -29,7 +29,7 @@ fn basis_for(columns: Vec<usize, Memory>, application: Option<(usize, usize)>) -
     }
 }
 
-/// Indexes of the values in each of these lists of columns, in which no row stands yet.
+/// Creates an empty index for each list of columns.
 fn value_indexes<I: IntervalIndex>(
     memory: Memory,
     lists: Vec<Vec<usize, Memory>, Memory>,
@@ -44,8 +44,7 @@ fn value_indexes<I: IntervalIndex>(
     Ok(indexes)
 }
 
-/// Indexes of the values in each of these lists of columns, and of the period from the first of two columns to the
-/// second, if there are two; no row stands in them yet.
+/// Creates an empty index for each list of columns and, if two columns are given, one for the period between them.
 pub fn row_indexes<I: IntervalIndex>(
     memory: Memory,
     lists: Vec<Vec<usize, Memory>, Memory>,
@@ -60,7 +59,8 @@ pub fn row_indexes<I: IntervalIndex>(
     Ok(indexes)
 }
 
-/// Puts the rows, the first at a place, where they stand. Refused where memory is, and then some of them stand.
+/// Enters the rows in the indexes, the first at position `from`. Fails if out of memory; then some of them may be
+/// entered.
 fn enter_each<I: IntervalIndex>(
     indexes: &mut ValueIndexes<I>,
     seats: &Seats,
@@ -83,7 +83,7 @@ fn enter_each<I: IntervalIndex>(
     Ok(())
 }
 
-/// Puts the rows that come behind these where they stand. Refused where memory is, and then none of them stands.
+/// Enters the new rows after those of the versions. Fails if out of memory; then none of them is entered.
 pub fn enter_rows<I: IntervalIndex>(
     seats: &mut Seats,
     indexes: &mut ValueIndexes<I>,
@@ -110,7 +110,7 @@ pub fn enter_rows<I: IntervalIndex>(
     Ok(())
 }
 
-/// Takes the rows that came behind these away again. Takes no memory.
+/// Removes the new rows after those of the versions again. Allocates no memory.
 pub fn leave_back<I: IntervalIndex>(
     indexes: &mut ValueIndexes<I>,
     seats: &Seats,
@@ -128,7 +128,7 @@ pub fn leave_back<I: IntervalIndex>(
     }
 }
 
-/// Takes the rows from a place on away. Takes no memory.
+/// Removes the rows from a position on from the indexes. Allocates no memory.
 pub fn leave_rows<I: IntervalIndex>(
     indexes: &mut ValueIndexes<I>,
     seats: &Seats,
@@ -144,7 +144,7 @@ pub fn leave_rows<I: IntervalIndex>(
     }
 }
 
-/// Takes the row at a place away if its version is closed. Takes no memory.
+/// Removes the row at a position from the indexes if its version is closed. Allocates no memory.
 fn leave_if_shut<I: IntervalIndex>(
     indexes: &mut ValueIndexes<I>,
     seats: &Seats,
@@ -161,7 +161,7 @@ fn leave_if_shut<I: IntervalIndex>(
     }
 }
 
-/// Takes the rows at these places away whose versions are closed. Takes no memory.
+/// Removes the rows of closed versions at these positions from the indexes. Allocates no memory.
 fn leave_each<I: IntervalIndex>(
     indexes: &mut ValueIndexes<I>,
     seats: &Seats,
@@ -176,7 +176,7 @@ fn leave_each<I: IntervalIndex>(
     }
 }
 
-/// Takes the rows at these places away whose versions are closed, if there are indexes at all. Takes no memory.
+/// Removes the rows of closed versions at these positions, if there are any indexes. Allocates no memory.
 pub fn leave_shut<I: IntervalIndex>(
     indexes: &mut ValueIndexes<I>,
     seats: &Seats,

@@ -71,7 +71,7 @@ has_words text first second e are (ts, tokens, spelled) =
     words_of e first second
     (subst (AreEnding e) (one_list text ts (word_tokens first second) tokens.0 are) (spelled_so e ts spelled))
 
--- no second word but WORK
+-- a text whose second word is not WORK does not end a transaction
 pub not_work : (text first : List ℕ) (second : Option (List ℕ)) → AreTokens (word_tokens first second) text
     → is_work second ≡ false → EndsText text None
 not_work text first second are other e is =
@@ -97,7 +97,7 @@ ends_so Rollback text ts (inl one) are =
 ends_so Rollback text ts (inr two) are =
     (ts, (are, rw two (omega arith)), (Word (codes "WORK") ∷ [], two, inr refl))
 
--- the first word decides where a second one is WORK
+-- if there is no second word other than WORK, the first word decides
 pub word_decides : (text first : List ℕ) (second : Option (List ℕ)) → AreTokens (word_tokens first second) text
     → is_work second ≡ true → EndsText text (end_of_word (map upper first))
 word_decides text first second are work =
@@ -128,7 +128,7 @@ word_decides text first second are work =
     by false p true q = rw (p, q) (so Rollback q)
     by false p false q = rw (p, q) (λ e. none e p q)
 
--- ---- and so of bytes
+-- ---- the same for bytes
 
 -- one text does not end a transaction in two ways
 one_end : (text : List ℕ) (e f : code.TransactionEnd) → IsTextOf text (end_statement e)
@@ -149,7 +149,7 @@ one_end text e f (ts, tokens, spelled) (us, others, spelled_too) =
     by Rollback Commit (inr a) (inl b) = absurd (let z = sym a ∙ b in cc)
     by Rollback Commit (inr a) (inr b) = absurd (let z = sym a ∙ b in cc)
 
--- the answer is this end exactly where the text says its statement
+-- the result is this end exactly where the text says the statement of this end
 abbrev pub Tells : List ℕ → Option code.TransactionEnd → code.TransactionEnd → Type 0
 Tells text result e = (result ≡ Some e) ↔ HasSense (finished text) (Says (end_statement e))
 

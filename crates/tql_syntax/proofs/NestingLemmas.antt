@@ -1,4 +1,4 @@
--- The most parentheses that are open at once.
+-- The largest number of parentheses that are open at once.
 use Rattle.std.specs.Prelude.{◌≡◌, refl, ℕ, suc, pred, max, ◌+◌, ◌-◌, ◌<◌, ◌≤◌, List, [], ◌∷◌, map, drop, length}
 use Rattle.std.specs.Prelude.{get_or, take, ◌++◌}
 use Rattle.std.proofs.Common.{arith, ap, sym, ◌∙◌, add-one}
@@ -9,7 +9,7 @@ use Rattle.tql_lex.specs.Tokens.{token_of}
 use Rattle.tql_lex.specs.declared.token.Token as code
 use Rattle.tql_syntax.specs.Nesting.{open_behind}
 
--- as many as are open are open at once
+-- the depth is at least the number of parentheses that are open already
 open_at_once : (n : ℕ) (ts : List Token) → n ≤ depth_from n ts
 open_at_once n [] = omega arith
 open_at_once n (Word w ∷ ts) = open_at_once n ts
@@ -39,7 +39,7 @@ open_behind_bound n (Sign Open) = omega arith
 open_behind_bound n (Sign Close) = omega arith
 open_behind_bound n (Sign _) = omega arith
 
--- with one token more looked at, r open behind it, and m the most so far
+-- one more token: r parentheses are open after it, and m is the largest number so far
 pub one_more_token : (l : List code.Token) (d : code.Token) (i n most r m : ℕ) → i < length l
     → depth (map token_of l) ≡ max most (depth_from n (map token_of (drop i l))) → n ≤ most
     → r ≡ open_behind n (token_of (get_or l i d)) → m ≡ max r most
@@ -57,9 +57,9 @@ one_more_token l d i n most r m lt counted seen is_r is_m =
 pub one_more_open : (n r : ℕ) (t : Token) → r ≡ open_behind n t → r ≤ n + 1
 one_more_open n r t is = let h = open_behind_bound n t in omega arith
 
--- ---- the tokens before the first parenthesis that is too many
+-- ---- the tokens before the first parenthesis over the limit
 
--- how many are open after the tokens
+-- the number of open parentheses after the tokens
 abbrev pub open_after : ℕ → List Token → ℕ
 open_after n [] = n
 open_after n (t ∷ ts) = open_after (open_behind n t) ts
@@ -83,7 +83,7 @@ front_push : (l : List code.Token) (d : code.Token) (i : ℕ) → i < length l
 front_push l d i lt =
     ap (map token_of) (take_more l i d lt) ∙ map-append token_of (take i l) (get_or l i d ∷ [])
 
--- one token more is open so, and no deeper than 64 where so many are open after it
+-- one more token: r parentheses are open after it, and where r is at most 64, the depth stays at most 64
 pub one_more_shallow : (l : List code.Token) (d : code.Token) (i n r : ℕ) → i < length l
     → n ≡ open_after 0 (map token_of (take i l)) → depth (map token_of (take i l)) ≤ 64
     → r ≡ open_behind n (token_of (get_or l i d)) → r ≤ 64

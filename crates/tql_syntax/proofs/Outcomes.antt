@@ -1,4 +1,4 @@
--- What a statement that was read, or was not, says of the tokens.
+-- What the tokens spell, where a statement was read and where none was.
 use Rattle.std.specs.Prelude.{◌≡◌, ◌≢◌, ◌≤◌, ◌<◌, List, [], ◌∷◌, length, None, Result, Ok, Err, IsErrAnd}
 use Rattle.std.proofs.Common.{ap, sym, subst, arith}
 use Rattle.tql_spec.specs.Token.{Token, depth}
@@ -31,13 +31,13 @@ pub refused : (ts : List Token) (r : Result code.Tree Refusal) (e : ParseError) 
 refused ts (Ok s) e shallow h k = absurd k
 refused ts (Err x) e shallow h k = subst (λ (y : Refusal). Spells ts (Err y)) (sym k) (failed ts e shallow h)
 
--- tokens are left behind the statement
+-- tokens are left after the statement
 pub left_over : (ts : List Token) (s : Statement) (rest : List Token) → statement_at ts ≡ Read s rest
     → 0 < length rest → SpellsNone ts
 left_over ts s [] e some = absurd (omega arith)
 left_over ts s (t ∷ rest) e some = nothing_read ts (ap whole e)
 
--- no token is left behind the statement
+-- no token is left after the statement
 pub spelled : (ts : List Token) (s : Statement) (rest : List Token) → statement_at ts ≡ Read s rest → length rest ≤ 0
     → IsStatement s ts
 spelled ts s [] e none = reads_statement ts s (ap whole e)

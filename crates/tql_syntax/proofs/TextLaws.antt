@@ -1,4 +1,4 @@
--- From the tokens of a text to what the text says.
+-- From the result for the tokens of a text to the result for the text.
 use Rattle.std.proofs.Common.{◌≡◌, refl, sym, subst, ℕ, ◌≤◌, List, Result, Ok, Err, length, IsUtf8}
 use Rattle.tql_spec.specs.Token.{Token, AreTokens}
 use Rattle.tql_spec.specs.Syntax.{Statement}
@@ -18,7 +18,7 @@ no_statement text ts are none s (us, tokens, spelled) =
     let same : ts ≡ us = one_list text ts us are tokens.0 in
     none s (subst (λ vs. IsStatement s vs) (sym same) spelled)
 
--- what the tokens say the text says
+-- a result that is right for the tokens is right for the text
 pub spelled_says : (text : List ℕ) (ts : List Token) → AreTokens ts text → (result : Result code.Tree Refusal)
     → Spells ts result → SpellsText text result
 spelled_says text ts are (Ok s) p = (ts, (are, p.0), p.1)
@@ -51,7 +51,7 @@ spelled_says text ts are (Err r.ReferenceNotMet) p = absurd p
 whole : (text : List ℕ) → length text ≤ 1_048_576 → IsUtf8 text → IsWhole (finished text)
 whole text short utf8 = record { short = short; utf8 = utf8; finished = refl }
 
--- and where the bytes have no fault, the bytes
+-- a result that is right for the text is right for the bytes, if these have no fault
 pub text_says : (text : List ℕ) → length text ≤ 1_048_576 → IsUtf8 text → (result : Result code.Tree Refusal)
     → SpellsText text result → ReadsText text result
 text_says text short utf8 (Ok s) p = (whole text short utf8, p)

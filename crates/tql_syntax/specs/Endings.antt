@@ -7,7 +7,7 @@ use Rattle.tql_spec.specs.Run.{IsTextOf}
 use Rattle.tql_syntax.specs.declared.ending.TransactionEnd as code
 use Rattle.tql_syntax.specs.declared.ending.TransactionEnd.TheVariants.{Commit, Rollback}
 
--- the statement that ends a transaction so
+-- the statement that ends a transaction in this way
 abbrev pub end_statement : code.TransactionEnd → tree.Statement
 end_statement Commit = tree.CommitTree
 end_statement Rollback = tree.RollbackTree
@@ -17,7 +17,7 @@ abbrev pub EndsText : List ℕ → Option code.TransactionEnd → Type 0
 EndsText text (Some e) = IsTextOf text (end_statement e)
 EndsText text None = (e : code.TransactionEnd) → IsTextOf text (end_statement e) → ⊥
 
--- how a word in upper case does
+-- how a statement of this word, in upper case, ends a transaction, if it does
 abbrev pub end_of_word : List ℕ → Option code.TransactionEnd
 end_of_word w =
     if same_text w (codes "COMMIT") then Some Commit

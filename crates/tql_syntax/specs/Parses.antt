@@ -1,4 +1,4 @@
--- What parsing says of the tokens.
+-- What the result of parsing says about the tokens.
 use Rattle.std.specs.Prelude.{◌≤◌, ◌<◌, IsTrue, IsFalse, List, Result, Ok, Err, ⊤}
 use Rattle.tql_spec.specs.Token.{Token, depth}
 use Rattle.tql_spec.specs.Syntax as tree
@@ -10,7 +10,7 @@ use Rattle.tql_value.specs.declared.refusal.Refusal.TheVariants.{OutOfMemory}
 use Rattle.tql_syntax_tree.specs.Trees.{tree_of}
 use Rattle.tql_syntax_tree.specs.declared.tree.Tree.{Tree}
 
--- the tokens, all of them, spell the statement, and it keeps within the limits
+-- the whole token list spells the statement, which is within the limits
 pub record IsParsed (ts : List Token) (s : tree.Statement) : Type 0 where
   pub shallow : depth ts ≤ 64
   pub spelled : IsStatement s ts
@@ -24,7 +24,7 @@ SpellsNone ts = (s : tree.Statement) → IsStatement s ts → ⊥
 abbrev pub SpellsWide : List Token → Type 0
 SpellsWide ts = (s : tree.Statement) × IsStatement s ts × IsTrue (is_too_wide s)
 
--- what the outcome says of the tokens, however wide the statement is
+-- what the result says about the tokens, without limits on the width
 abbrev pub Spells : List Token → Result Tree Refusal → Type 0
 Spells ts (Ok s) = (depth ts ≤ 64) × IsStatement (tree_of s) ts
 Spells ts (Err NestedTooDeep) = 64 < depth ts
@@ -32,7 +32,7 @@ Spells ts (Err NotAStatement) = (depth ts ≤ 64) × SpellsNone ts
 Spells ts (Err OutOfMemory) = ⊤
 Spells ts (Err _) = ⊥
 
--- what the outcome says of the tokens
+-- what the result says about the tokens
 abbrev pub Parses : List Token → Result Tree Refusal → Type 0
 Parses ts (Ok s) = IsParsed ts (tree_of s)
 Parses ts (Err NestedTooDeep) = 64 < depth ts

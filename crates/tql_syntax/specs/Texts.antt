@@ -1,4 +1,4 @@
--- What a statement's text says.
+-- What the result of parsing says about a statement's text.
 use Rattle.std.specs.Prelude.{◌≤◌, ◌<◌, ℕ, List, length, Result, Ok, Err, IsUtf8, ⊤}
 use Rattle.tql_spec.specs.Syntax as tree
 use Rattle.tql_spec.specs.Run.{IsWhole, IsDeep, IsTextOf, finished}
@@ -12,7 +12,8 @@ use Rattle.tql_syntax_tree.specs.declared.tree.Tree.{Tree}
 abbrev pub SpellsNoStatement : List ℕ → Type 0
 SpellsNoStatement text = (s : tree.Statement) → IsTextOf text s → ⊥
 
--- the statement that a text spells, or that it is nested too deep or spells none, or that memory ran out
+-- the result is the statement that the text spells, or says that it is nested too deep or spells none, or that memory
+-- ran out
 abbrev pub SpellsText : List ℕ → Result Tree Refusal → Type 0
 SpellsText text (Ok s) = IsTextOf text (tree_of s)
 SpellsText text (Err NestedTooDeep) = IsDeep text
@@ -20,7 +21,7 @@ SpellsText text (Err NotAStatement) = ¬ IsDeep text × SpellsNoStatement text
 SpellsText text (Err OutOfMemory) = ⊤
 SpellsText text (Err _) = ⊥
 
--- the same of any bytes; each fault comes only where none before it is present
+-- the same for any bytes; a fault is reported only if none of the earlier faults is present
 abbrev pub ReadsText : List ℕ → Result Tree Refusal → Type 0
 ReadsText text (Ok s) = IsWhole (finished text) × IsTextOf text (tree_of s)
 ReadsText text (Err StatementTooLong) = 1_048_576 < length text

@@ -1,4 +1,4 @@
-//! Statements that end a transaction, told from all others without memory.
+//! Recognizing the statements that end a transaction, without allocating memory.
 ghost use Rattle.std.specs.Prelude.{◌≡◌, ◌↔◌, Some, map, option_map};
 ghost use Rattle.tql_spec.specs.Token.{upper};
 ghost use Rattle.tql_spec.specs.Syntax.{CommitTree, RollbackTree};
@@ -16,7 +16,7 @@ pub enum TransactionEnd {
     Rollback,
 }
 
-/// How a statement of this word ends a transaction, if it does.
+/// Returns how a statement of this word ends a transaction, if it does.
 fn end_of_word(word: &str) -> Option<TransactionEnd>
     ensures { result ≡ end_of_word (map upper word.now) }
 {
@@ -40,7 +40,7 @@ fn is_work(second: Option<&str>) -> bool
     }
 }
 
-/// How a text of not too many bytes ends a transaction, if it does.
+/// Returns how a text ends a transaction, if it does. The length of the text is already checked.
 fn text_end(text: &str) -> Option<TransactionEnd>
     ensures { EndsText text.now result }
 {
@@ -51,9 +51,9 @@ fn text_end(text: &str) -> Option<TransactionEnd>
     end_of_word(first)
 }
 
-/// Whether the text of a finished statement, without its `;`, is a COMMIT or a ROLLBACK, with WORK or without; None of
-/// any other text. It says so of the same texts as `read_text`, but asks for no memory, so a transaction can be ended
-/// where there is none (ISO/IEC 9075-2:2011, 17.7 and 17.8).
+/// Returns how the text of a finished statement, without its `;`, ends a transaction: by COMMIT or ROLLBACK, with or
+/// without WORK. Returns None for any other text. It agrees with `read_text` but allocates nothing, so a transaction
+/// can end when memory is exhausted (ISO/IEC 9075-2:2011, 17.7 and 17.8).
 pub fn transaction_end(text: &[u8]) -> Option<TransactionEnd>
     ensures commits { (result ≡ Some TransactionEnd.Commit)
         ↔ HasSense (finished text.now) (Says CommitTree) }

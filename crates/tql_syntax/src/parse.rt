@@ -1,4 +1,4 @@
-//! Reading the tokens of a statement, all of them.
+//! Parsing the whole token list of a statement.
 ghost use Rattle.std.specs.Prelude.{◌≡◌, ◌+◌, ◌^◌, ◌<◌, ◌≤◌, map, take, length};
 ghost use Rattle.tql_spec.specs.Token.{depth};
 ghost use Rattle.tql_lex.specs.Tokens.{token_of};
@@ -13,10 +13,10 @@ use tql_syntax_tree::tree::Tree;
 use tql_syntax_tree::width::is_too_wide;
 use tql_value::refusal::Refusal;
 
-/// The most parentheses that may be open at once.
+/// The maximum number of parentheses that may be open at once.
 const MOST_OPEN: usize = 64;
 
-/// How many parentheses are open behind the token.
+/// Returns the number of open parentheses after the token, given the number before it.
 fn open_behind(count: usize, token: &Token<'_>) -> usize
     requires { count + 1 < 2 ^ 64 }
     ensures { result ≡ open_behind count (token_of token.now) }
@@ -28,7 +28,7 @@ fn open_behind(count: usize, token: &Token<'_>) -> usize
     }
 }
 
-/// The most parentheses that are open at once. A `)` where none is open closes nothing.
+/// Returns the largest number of parentheses that are open at once. A `)` where none is open closes nothing.
 fn most_open(tokens: &[Token<'_>]) -> usize
     ensures { result ≡ depth (map token_of tokens.now) }
 {
@@ -41,7 +41,8 @@ fn most_open(tokens: &[Token<'_>]) -> usize
     most
 }
 
-/// Returns how many tokens come before the 65th parenthesis that is open at once: all of them where there is none.
+/// Returns the number of tokens before the first `(` that makes 65 parentheses open at once; of all tokens if there is
+/// none.
 pub(crate) fn shallow_count(tokens: &[Token<'_>]) -> usize
     ensures fits { result ≤ length tokens.now }
     ensures shallow { depth (map token_of (take result tokens.now)) ≤ 64 }
@@ -56,10 +57,10 @@ pub(crate) fn shallow_count(tokens: &[Token<'_>]) -> usize
     tokens.len()
 }
 
-/// Reads the tokens of one statement, all of them, however wide it is.
+/// Parses the whole token list of one statement, without limits on its width.
 ///
-/// More than 64 parentheses open at once are refused first, as nested too deep, and then tokens that spell no
-/// statement, as not a statement. Where memory runs out, that is the refusal. The grammar is a part of the SQL of
+/// More than 64 parentheses open at once are refused first, as `NestedTooDeep`; then tokens that are not a statement,
+/// as `NotAStatement`. If memory runs out, the refusal is `OutOfMemory`. The grammar is a part of the SQL of
 /// ISO/IEC 9075-2:2011; the limit, and `AT` with a moment, are this project's choice.
 pub fn spelled<'a>(memory: Memory, tokens: &[Token<'a>]) -> Result<Tree<'a>, Refusal>
     ensures { Spells (map token_of tokens.now) result }
@@ -75,10 +76,10 @@ pub fn spelled<'a>(memory: Memory, tokens: &[Token<'a>]) -> Result<Tree<'a>, Ref
     Ok(tree)
 }
 
-/// Reads the tokens of one statement, all of them.
+/// Parses the whole token list of one statement.
 ///
-/// Refused as `spelled` refuses; and then more than 64 columns of a table, or more than 8 table references in a FROM
-/// clause, as too many.
+/// It refuses what `spelled` refuses; then more than 64 columns in a table, or more than 8 table references in a FROM
+/// clause, as `TooManyColumnsOrTables`.
 pub fn parse<'a>(memory: Memory, tokens: &[Token<'a>]) -> Result<Tree<'a>, Refusal>
     ensures { Parses (map token_of tokens.now) result }
 {

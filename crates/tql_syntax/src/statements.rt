@@ -1,4 +1,4 @@
-//! Reading statements.
+//! Parsing statements.
 ghost use Rattle.tql_syntax_grammar.specs.ReadingStatements as reading;
 ghost use Rattle.tql_syntax_expr.specs.Parsing.{Reads};
 ghost use Rattle.tql_syntax_tree.specs.Statements.{statement_of};
@@ -13,7 +13,7 @@ use tql_syntax_statement::creates::{create, drop_table};
 use tql_syntax_tree::statement::Statement;
 use tql_syntax_tree::tree::Tree;
 
-/// PRUNE is read: HISTORY BEFORE and a moment.
+/// Parses the rest of `PRUNE`: HISTORY BEFORE and a moment.
 #[tactic(auto, unfolding(tql_syntax_grammar::specs::ReadingStatements::prune_at))]
 fn prune<'a>(tokens: &mut Cursor<'_, 'a>) -> Result<Statement<'a>, ParseError>
     ensures { Reads statement_of (reading.prune_at tokens.old) result tokens.new }
@@ -24,7 +24,7 @@ fn prune<'a>(tokens: &mut Cursor<'_, 'a>) -> Result<Statement<'a>, ParseError>
     Ok(Statement::Prune(text))
 }
 
-/// A statement of transactions, of the clock or of the horizon.
+/// Parses a statement for transactions, the clock or the horizon.
 #[tactic(auto, unfolding(tql_syntax_grammar::specs::ReadingStatements::control_at))]
 fn control<'a>(tokens: &mut Cursor<'_, 'a>) -> Result<Statement<'a>, ParseError>
     ensures { Reads statement_of (reading.control_at tokens.old) result tokens.new }
@@ -49,7 +49,7 @@ fn control<'a>(tokens: &mut Cursor<'_, 'a>) -> Result<Statement<'a>, ParseError>
     Ok(Statement::At(text))
 }
 
-/// What stands behind OPEN.
+/// Parses the rest of `OPEN`: READER and a name.
 #[tactic(auto, unfolding(tql_syntax_grammar::specs::ReadingStatements::open_at))]
 fn open_reader<'a>(tokens: &mut Cursor<'_, 'a>) -> Result<Statement<'a>, ParseError>
     ensures { Reads statement_of (reading.open_at tokens.old) result tokens.new }
@@ -59,7 +59,7 @@ fn open_reader<'a>(tokens: &mut Cursor<'_, 'a>) -> Result<Statement<'a>, ParseEr
     Ok(Statement::OpenReader(reader))
 }
 
-/// What stands behind CLOSE.
+/// Parses the rest of `CLOSE`: READER and a name.
 #[tactic(auto, unfolding(tql_syntax_grammar::specs::ReadingStatements::close_at))]
 fn close_reader<'a>(tokens: &mut Cursor<'_, 'a>) -> Result<Statement<'a>, ParseError>
     ensures { Reads statement_of (reading.close_at tokens.old) result tokens.new }
@@ -69,7 +69,7 @@ fn close_reader<'a>(tokens: &mut Cursor<'_, 'a>) -> Result<Statement<'a>, ParseE
     Ok(Statement::CloseReader(reader))
 }
 
-/// A statement of readers, or one of transactions, of the clock or of the horizon.
+/// Parses a statement for readers, transactions, the clock or the horizon.
 #[tactic(auto, unfolding(tql_syntax_grammar::specs::ReadingStatements::reader_at))]
 fn reader<'a>(memory: Memory, tokens: &mut Cursor<'_, 'a>) -> Result<Statement<'a>, ParseError>
     ensures { Reads statement_of (reading.reader_at tokens.old) result tokens.new }
@@ -86,7 +86,7 @@ fn reader<'a>(memory: Memory, tokens: &mut Cursor<'_, 'a>) -> Result<Statement<'
     control(tokens)
 }
 
-/// A statement that changes rows, or one of readers, of transactions, of the clock or of the horizon.
+/// Parses a statement that changes rows, or one for readers, transactions, the clock or the horizon.
 #[tactic(auto, unfolding(tql_syntax_grammar::specs::ReadingStatements::change_at))]
 fn change<'a>(memory: Memory, tokens: &mut Cursor<'_, 'a>) -> Result<Statement<'a>, ParseError>
     ensures { Reads statement_of (reading.change_at tokens.old) result tokens.new }
@@ -103,7 +103,7 @@ fn change<'a>(memory: Memory, tokens: &mut Cursor<'_, 'a>) -> Result<Statement<'
     reader(memory, tokens)
 }
 
-/// A statement.
+/// Parses a statement.
 #[tactic(auto, unfolding(tql_syntax_grammar::specs::ReadingStatements::statement_at))]
 fn statement<'a>(memory: Memory, tokens: &mut Cursor<'_, 'a>) -> Result<Statement<'a>, ParseError>
     ensures { Reads statement_of (reading.statement_at tokens.old) result tokens.new }
@@ -120,7 +120,7 @@ fn statement<'a>(memory: Memory, tokens: &mut Cursor<'_, 'a>) -> Result<Statemen
     change(memory, tokens)
 }
 
-/// The tree of a statement.
+/// Parses a statement, and returns its tree. Tokens may be left after it.
 pub(crate) fn statement_tree<'a>(
     memory: Memory,
     tokens: &mut Cursor<'_, 'a>,

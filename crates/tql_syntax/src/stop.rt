@@ -1,4 +1,4 @@
-//! Where reading a text stopped that is no statement, or is nested too deep.
+//! Locating where parsing stopped in a text that is not a statement or is nested too deep.
 ghost use Rattle.std.specs.Prelude.{◌≤◌, length, IfSome};
 ghost use Rattle.tql_syntax.specs.Stops.{IsStopIn};
 
@@ -9,8 +9,8 @@ use tql_lex::token::Token;
 use tql_memory::Memory;
 use tql_syntax_expr::cursor::{Cursor, ParseError};
 
-/// The tokens of a text up to the first byte at which none begins, how many of them were read, and whether the next
-/// one is the 65th parenthesis that is open at once.
+/// The tokens of a text up to the first byte at which none begins, and the number of them before the stop. `is_deep`
+/// says whether the next one is the `(` that makes 65 parentheses open at once.
 #[derive(Drop)]
 pub struct Stopped<'a> {
     pub front: FrontTokens<'a>,
@@ -18,7 +18,7 @@ pub struct Stopped<'a> {
     pub is_deep: bool,
 }
 
-/// Returns how many tokens are left where reading them as a statement stops; None where memory is refused.
+/// Returns the number of tokens that are left where parsing them as a statement stops; None if an allocation fails.
 fn left_behind(memory: Memory, tokens: &[Token<'_>]) -> Option<usize> {
     let mut cursor = Cursor::new(tokens);
     match statement_tree(memory, &mut cursor) {
@@ -27,10 +27,10 @@ fn left_behind(memory: Memory, tokens: &[Token<'_>]) -> Option<usize> {
     }
 }
 
-/// Returns how many of the tokens are read where reading them as a statement stops; None where memory is refused.
+/// Returns the number of tokens that are consumed where parsing them as a statement stops; None if an allocation fails.
 ///
-/// The functions that read call themselves for each parenthesis, and `read_text` refuses a text that is not all tokens
-/// before it looks for 64 of them. So the tokens end here before the 65th that is open at once.
+/// The parser recurses for each open parenthesis, and `read_text` refuses a text that does not consist of tokens before
+/// it checks the nesting. So this function cuts the tokens before the `(` that makes 65 parentheses open at once.
 fn read_count(memory: Memory, tokens: &[Token<'_>]) -> Option<usize>
     ensures { IfSome result (λ n. n ≤ length tokens.now) }
 {
@@ -39,10 +39,10 @@ fn read_count(memory: Memory, tokens: &[Token<'_>]) -> Option<usize>
     count.checked_sub(left)
 }
 
-/// Finds where reading a text stops that `read_text` refuses as not a statement; None where memory is refused.
+/// Finds where parsing stops in a text that `read_text` refuses as `NotAStatement`; None if an allocation fails.
 ///
-/// It reads the text again, up to the first byte at which no token begins or the 65th parenthesis that is open at once.
-/// The place serves the words of a refusal alone: after which of its tokens reading a wrong text stops is this
+/// It parses the text again, up to the first byte at which no token begins, or the `(` that makes 65 parentheses open
+/// at once. The position is used only in the error message: after which token parsing a wrong text stops is this
 /// project's choice.
 pub fn stop_of(memory: Memory, text: &str) -> Option<Stopped<'_>>
     ensures { IfSome result (λ stop. IsStopIn text.now stop) }
@@ -57,8 +57,8 @@ pub fn stop_of(memory: Memory, text: &str) -> Option<Stopped<'_>>
     })
 }
 
-/// Finds the 65th parenthesis that is open at once in a text that `read_text` refuses as nested too deep; None where
-/// memory is refused, or where there is none.
+/// Finds the `(` that makes 65 parentheses open at once in a text that `read_text` refuses as `NestedTooDeep`. Returns
+/// None if there is none, or if an allocation fails.
 pub fn depth_stop_of(memory: Memory, text: &str) -> Option<Stopped<'_>>
     ensures { IfSome result (λ stop. IsStopIn text.now stop) }
 {

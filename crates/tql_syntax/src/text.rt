@@ -1,4 +1,4 @@
-//! Reading the text of a statement.
+//! Parsing the text of a statement.
 ghost use Rattle.std.specs.Prelude.{◌≡◌, ◌≤◌, length};
 ghost use Rattle.tql_syntax.specs.Texts.{ReadsText, SpellsText};
 
@@ -9,7 +9,7 @@ use tql_memory::Memory;
 use tql_syntax_tree::tree::Tree;
 use tql_value::refusal::Refusal;
 
-/// Reads a text of not too many bytes.
+/// Parses a text whose length is already checked.
 fn spelled_text(memory: Memory, text: &str) -> Result<Tree<'_>, Refusal>
     ensures { SpellsText text.now result }
 {
@@ -17,9 +17,9 @@ fn spelled_text(memory: Memory, text: &str) -> Result<Tree<'_>, Refusal>
     spelled(memory, &tokens)
 }
 
-/// Reads the text of a finished statement, without its `;`, however wide the statement is. Refused are, the first of
-/// them: over 1,048,576 bytes, bytes that are not UTF-8, over 64 parentheses open at once, a text that is no
-/// statement. Where memory runs out, that is the refusal.
+/// Parses the text of a finished statement, without its `;`, without limits on its width. It reports the first of these
+/// faults: over 1,048,576 bytes, not UTF-8, over 64 parentheses open at once, not a statement. If memory runs out, the
+/// refusal is `OutOfMemory`.
 pub fn read_text(memory: Memory, text: &[u8]) -> Result<Tree<'_>, Refusal>
     ensures { ReadsText text.now result }
 {

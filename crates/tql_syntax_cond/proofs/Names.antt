@@ -43,7 +43,7 @@ pub lone_is : {A B : Type 0} (f : A → Signed) (g : B → AddedTerm) (s : Signe
     ((length ts == 0) && ((length fs == 0) && is_unsigned s))
 lone_is f g s fs ts = λ i. no_term_is g ts i && (no_factor_is f fs i && is_unsigned s)
 
--- ---- the same, told by the code's tree
+-- ---- the same, by the code's tree
 
 expr_is : {A : Type 0} (v : ExprIn A)
     → expr_of v ≡ Terms (term_of (out-ExprIn A v).first) (terms_of (map added_of (out-ExprIn A v).more.items))

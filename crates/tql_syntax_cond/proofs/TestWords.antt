@@ -1,4 +1,4 @@
--- A test that a word begins is read by its word.
+-- Reading the rest of a test by its first word.
 use Rattle.std.specs.Prelude.{◌≡◌, refl, Bool, true, false, if◌then◌else◌, List, codes, Option, Some, None}
 use Rattle.tql_spec.specs.Token.{Token, Word}
 use Rattle.tql_spec.specs.Syntax.{Sum}
@@ -9,13 +9,13 @@ use Rattle.tql_syntax_cond.specs.TestWords.{test_word_at, behind_word_over}
 use Rattle.tql_syntax_cond.specs.declared.conditions.TestWord.{TestWord}
 use Rattle.tql_syntax_cond.specs.declared.conditions.TestWord.TheVariants as word
 
--- a choice, and what goes on behind each side
+-- a choice between two outcomes, each continued by `k`
 choice : {A B : Type 0} (k : A → Parser B) (b : Bool) (x y : Outcome A) (u v : Outcome B)
     → u ≡ (x >>= k) → v ≡ (y >>= k) → (if b then u else v) ≡ ((if b then x else y) >>= k)
 choice k true x y u v p q = p
 choice k false x y u v p q = q
 
--- the same of rules, behind a token that may be in front
+-- the same for two rules, chosen by the token in front
 front : {A B : Type 0} (k : A → Parser B) (t : Token) (p q : Parser A) (f g : Parser B)
     → ((us : List Token) → f us ≡ (p us >>= k)) → ((us : List Token) → g us ≡ (q us >>= k))
     → (ts : List Token) → if_front t f g ts ≡ (if_front t p q ts >>= k)
@@ -23,7 +23,7 @@ front k t p q f g h i ts =
     choice k (eat t ts).0 (p (eat t ts).1) (q (eat t ts).1) (f (eat t ts).1) (g (eat t ts).1) (h (eat t ts).1)
     (i (eat t ts).1)
 
--- what is left of the choice of words behind the first, and of that of tests
+-- the alternatives after the first one, of the words and of the tests
 abbrev words_in : Parser (Option TestWord)
 words_in = if_front (Word (codes "IN")) (found (Some word.In)) (found None)
 

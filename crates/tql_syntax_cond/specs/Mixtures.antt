@@ -1,4 +1,4 @@
--- What the code's tests or expressions, and conditions or expressions, stand for.
+-- What the code's `Tested` and `Mixed` values represent.
 use Rattle.std.specs.Prelude.{Bool, true, false, ◌&&◌, Option, Some, None}
 use Rattle.tql_spec.specs.Syntax as tree
 use Rattle.tql_syntax_grammar.specs.ReadingExpressions as reading
@@ -9,28 +9,28 @@ use Rattle.tql_syntax_cond.specs.declared.conditions.Tested.TheVariants as teste
 use Rattle.tql_syntax_cond.specs.declared.conditions.Mixed.{Mixed}
 use Rattle.tql_syntax_cond.specs.declared.conditions.Mixed.TheVariants as mixed
 
--- a primary without a sign
+-- whether a primary has no sign
 abbrev pub is_unsigned : tree.Signed → Bool
 is_unsigned (tree.Unsigned p) = true
 is_unsigned (tree.Positive p) = false
 is_unsigned (tree.Negative p) = false
 
--- no factor
+-- whether there is no further factor
 abbrev pub has_no_factor : tree.MoreFactors → Bool
 has_no_factor tree.NoFactor = true
 has_no_factor (tree.TimesFactor s fs) = false
 
--- no term
+-- whether there is no further term
 abbrev pub has_no_term : tree.MoreTerms → Bool
 has_no_term tree.NoTerm = true
 has_no_term (tree.PlusTerm t ts) = false
 has_no_term (tree.MinusTerm t ts) = false
 
--- one primary without a sign
+-- whether an expression is one primary without a sign
 abbrev pub is_lone : tree.Sum → Bool
 is_lone (tree.Terms (tree.Factors s fs) ts) = has_no_term ts && (has_no_factor fs && is_unsigned s)
 
--- the name of a primary that is a column reference
+-- the column reference that a primary is, if it is one
 abbrev pub column_in : tree.Primary → Option tree.Named
 column_in (tree.ColumnNamed r) = Some r
 column_in (tree.NumberLiteral ds) = None

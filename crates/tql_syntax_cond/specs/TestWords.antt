@@ -1,4 +1,4 @@
--- The word that begins a test behind its expression, and what stands behind the word.
+-- The words that continue an expression as a test, and the rest of the test after each word.
 use Rattle.std.specs.Prelude.{false, codes, Option, Some, None}
 use Rattle.tql_spec.specs.Token.{Word}
 use Rattle.tql_spec.specs.Syntax.{Sum, Test}
@@ -17,14 +17,14 @@ test_word_at =
     (if_front (Word (codes "BETWEEN")) (found (Some word.Between))
     (if_front (Word (codes "IN")) (found (Some word.In)) (found None))))
 
--- what stands behind the word, which this expression stands before
+-- the rest of the test that begins with this expression and the word
 abbrev pub worded_over : Parser Sum → TestWord → Sum → Parser Test
 worded_over inner word.Is e ts = null_test_at e ts
 worded_over inner word.Not e ts = denied_over inner e ts
 worded_over inner word.Between e ts = between_over inner false e ts
 worded_over inner word.In e ts = in_over inner false e ts
 
--- behind this expression and the word: its test; a relation or CONTAINS, or nothing, where there is no word
+-- after this expression and the word: the rest of the test; without a word, a relation, CONTAINS or nothing
 abbrev pub behind_word_over : Parser Sum → Sum → Option TestWord → Parser Tested
 behind_word_over inner e (Some w) ts = into WholeTest (worded_over inner w e ts)
 behind_word_over inner e None ts = period_test_over inner e (as_named e) ts

@@ -1,7 +1,7 @@
-//! Reading conditions. A number bounds how deep parentheses may go; as many as there are tokens are enough.
+//! Parsing conditions. `depth` bounds how deep parentheses may nest; the number of tokens is always enough.
 //!
-//! What `(` opens may be a condition or an expression, and only the tokens behind it tell which: both are read by one
-//! rule, once.
+//! A `(` may open a condition or an expression, and only later tokens decide which. One rule parses both, so no token
+//! is parsed twice.
 ghost use Rattle.std.specs.Prelude.{◌≡◌, [], IfOk};
 ghost use Rattle.tql_syntax_grammar.specs.Outcome.{Read, into, more};
 ghost use Rattle.tql_spec.specs.Syntax as tree;
@@ -29,7 +29,7 @@ use tql_syntax_operand::operands::{
 use tql_syntax_tree::condition::{Cond, Conj, Factor, Operand, Test, boxed_cond, boxed_test};
 use tql_syntax_tree::expression::{Expr, Named, Primary, Sign, Signed};
 
-/// A word that begins a test behind its expression.
+/// A word that continues an expression as a test.
 #[derive(Clone, Copy)]
 enum TestWord {
     Is,
@@ -38,7 +38,7 @@ enum TestWord {
     In,
 }
 
-/// A test, or an expression that goes on to none.
+/// A test, or an expression that does not continue as a test.
 #[derive(Drop)]
 enum Tested<'a> {
     Test(Box<Test<'a>, Memory>),
@@ -74,7 +74,7 @@ fn is_lone(value: &Expr<'_>) -> bool
     }
 }
 
-/// The test of an operand, and what stands behind it.
+/// Builds the test of an operand and the part after it. The only error is a failed allocation.
 fn related<'a>(memory: Memory, left: Operand<'a>, tail: Tail<'a>) -> Result<Tested<'a>, AllocError>
     ensures { IfOk result
         (λ tested. tested_of tested ≡ reading.WholeTest (tail_test (operand_of left.entry) tail.entry)) }
@@ -83,7 +83,7 @@ fn related<'a>(memory: Memory, left: Operand<'a>, tail: Tail<'a>) -> Result<Test
     Ok(Tested::Test(test))
 }
 
-/// Behind this expression, which is the column reference: a relation or CONTAINS, or nothing.
+/// Parses what may follow `value`, which is the column reference `name`: a relation, CONTAINS or nothing.
 fn named_test<'a>(
     memory: Memory,
     tokens: &mut Cursor<'_, 'a>,
@@ -104,7 +104,7 @@ fn named_test<'a>(
     }
 }
 
-/// Behind this expression: a relation or CONTAINS where it is one column reference, or nothing.
+/// Parses what may follow `value`: a relation or CONTAINS if `value` is one column reference, or nothing.
 #[tactic(auto, using(crate::proofs::Names::lone_name, crate::proofs::Names::not_lone))]
 fn period_test<'a>(
     memory: Memory,
@@ -134,7 +134,7 @@ fn period_test<'a>(
     }
 }
 
-/// The word that begins a test behind its expression, where one is in front; goes past it.
+/// Consumes a word that continues an expression as a test, if one is next.
 fn test_word(tokens: &mut Cursor<'_, '_>) -> Option<TestWord>
     ensures { test_word_at tokens.old ≡ Read result tokens.new }
 {
@@ -153,7 +153,7 @@ fn test_word(tokens: &mut Cursor<'_, '_>) -> Option<TestWord>
     None
 }
 
-/// What stands behind this word, which this expression stands before.
+/// Parses the rest of the test that begins with `value` and `word`.
 fn worded<'a>(
     memory: Memory,
     tokens: &mut Cursor<'_, 'a>,
@@ -172,7 +172,7 @@ fn worded<'a>(
     }
 }
 
-/// Behind this expression: a test that a word begins, or nothing.
+/// Parses what may follow `value`, other than a comparison: the rest of a test that continues with a word, or nothing.
 #[tactic(auto, using(crate::proofs::TestWords::by_word))]
 fn word_test<'a>(
     memory: Memory,
@@ -192,7 +192,7 @@ fn word_test<'a>(
     }
 }
 
-/// Behind this expression: what a comparison compares it with, or another test, or nothing.
+/// Parses what may follow `value`: a comparison and its right side, the rest of another test, or nothing.
 #[tactic(auto, unfolding(tql_syntax_grammar::specs::ReadingExpressions::test_behind))]
 fn test_behind<'a>(
     memory: Memory,
@@ -213,7 +213,7 @@ fn test_behind<'a>(
     }
 }
 
-/// What stands behind the operand that a test begins with.
+/// Parses the rest of the test that begins with `left`. Fails if neither a relation nor CONTAINS is next.
 #[tactic(auto, unfolding(crate::specs::TestEnds::operand_end))]
 fn operand_end<'a>(
     memory: Memory,
@@ -229,7 +229,7 @@ fn operand_end<'a>(
     }
 }
 
-/// A test that begins with a marked period.
+/// Parses a test that begins with a marked period.
 #[tactic(auto, unfolding(tql_syntax_grammar::specs::ReadingExpressions::marked_test_over, crate::specs::TestEnds::operand_end))]
 fn marked_test<'a>(
     memory: Memory,
@@ -242,7 +242,7 @@ fn marked_test<'a>(
     operand_end(memory, tokens, depth, Operand::ByMark(mark))
 }
 
-/// The expression that begins with this primary, whose byte offset in the text is `start`.
+/// Parses the rest of the expression that begins with `primary`, whose byte offset in the text is `start`.
 #[tactic(auto, unfolding(tql_syntax_grammar::specs::ReadingExpressions::sum_from))]
 fn expr_from<'a>(
     memory: Memory,
@@ -263,7 +263,7 @@ fn expr_from<'a>(
     expr_behind(memory, tokens, depth, term)
 }
 
-/// A test that begins with this expression in parentheses, or an expression that does.
+/// Parses the rest of a test or an expression that begins with `inner` in parentheses.
 fn enclosed<'a>(
     memory: Memory,
     tokens: &mut Cursor<'_, 'a>,
@@ -279,7 +279,7 @@ fn enclosed<'a>(
     test_behind(memory, tokens, depth, value)
 }
 
-/// A test that is this condition in parentheses.
+/// Builds the test that is this condition in parentheses. The only error is a failed allocation.
 fn grouped<'a>(memory: Memory, condition: Box<Cond<'a>, Memory>) -> Result<Tested<'a>, AllocError>
     ensures { IfOk result
         (λ tested. tested_of tested ≡ reading.WholeTest (tree.Grouped (boxed_cond_of condition.entry))) }
@@ -289,7 +289,7 @@ fn grouped<'a>(memory: Memory, condition: Box<Cond<'a>, Memory>) -> Result<Teste
 }
 
 impl<'a> Mixed<'a> {
-    /// What stands behind the `)` of this condition or expression: a test or an expression that begins with it.
+    /// Parses the rest, after the `)`, of a test or an expression that begins with this condition or expression.
     fn closed(
         self,
         memory: Memory,
@@ -307,7 +307,7 @@ impl<'a> Mixed<'a> {
     }
 }
 
-/// What stands behind `(`: a condition and its `)`, or a test or an expression that begins with an expression in
+/// Parses the rest of `(`: a condition and its `)`, or a test or an expression that begins with an expression in
 /// parentheses.
 #[cycle(conditions)]
 #[tactic(auto, unfolding(tql_syntax_grammar::specs::ReadingExpressions::opened_over))]
@@ -323,7 +323,7 @@ fn opened<'a>(
     inner.closed(memory, tokens, depth)
 }
 
-/// A test, or an expression that goes on to none.
+/// A test, or an expression that does not continue as a test.
 #[cycle(conditions)]
 #[tactic(auto, unfolding(tql_syntax_grammar::specs::ReadingExpressions::tested_over))]
 fn test_or_expr<'a>(
@@ -343,7 +343,7 @@ fn test_or_expr<'a>(
     test_behind(memory, tokens, depth, value)
 }
 
-/// A test.
+/// Parses a test.
 #[cycle(conditions)]
 #[tactic(auto, unfolding(tql_syntax_grammar::specs::ReadingExpressions::test_over))]
 fn test<'a>(
@@ -362,7 +362,7 @@ fn test<'a>(
     }
 }
 
-/// A test with NOT before it, or without.
+/// Parses a test, optionally preceded by NOT.
 #[cycle(conditions)]
 #[tactic(auto, unfolding(tql_syntax_grammar::specs::ReadingExpressions::factor_over))]
 fn factor<'a>(
@@ -377,7 +377,7 @@ fn factor<'a>(
     Ok(Factor { is_negated, test })
 }
 
-/// The factors behind the first.
+/// Parses the factors after the first one.
 #[cycle(conditions)]
 fn factors<'a>(
     memory: Memory,
@@ -397,7 +397,7 @@ fn factors<'a>(
     Ok(found)
 }
 
-/// The conjunction that begins with this factor.
+/// Parses the rest of the conjunction that begins with this factor.
 #[cycle(conditions)]
 #[tactic(auto, unfolding(tql_syntax_grammar::specs::ReadingExpressions::conj_behind))]
 fn conj_behind<'a>(
@@ -413,7 +413,7 @@ fn conj_behind<'a>(
     Ok(Conj { first, more })
 }
 
-/// Factors joined by AND.
+/// Parses factors joined by AND.
 #[cycle(conditions)]
 #[tactic(auto, unfolding(tql_syntax_grammar::specs::ReadingExpressions::conj_over))]
 fn conj<'a>(
@@ -427,7 +427,7 @@ fn conj<'a>(
     conj_behind(memory, tokens, depth, first)
 }
 
-/// The conjunctions behind the first.
+/// Parses the conjunctions after the first one.
 #[cycle(conditions)]
 fn conjs<'a>(
     memory: Memory,
@@ -447,7 +447,7 @@ fn conjs<'a>(
     Ok(found)
 }
 
-/// The condition that begins with this factor.
+/// Parses the rest of the condition that begins with this factor.
 #[cycle(conditions)]
 #[tactic(auto, unfolding(tql_syntax_grammar::specs::ReadingExpressions::condition_behind))]
 fn condition_behind<'a>(
@@ -466,7 +466,7 @@ fn condition_behind<'a>(
     Ok(condition)
 }
 
-/// The condition that begins with this test, with NOT before it or without.
+/// Parses the rest of the condition that begins with `test`, negated if `is_negated`.
 #[cycle(conditions)]
 fn condition_from<'a>(
     memory: Memory,
@@ -485,7 +485,7 @@ fn condition_from<'a>(
     Ok(Mixed::Cond(condition))
 }
 
-/// A condition or an expression, whose parentheses may go this deep.
+/// Parses a condition or an expression whose parentheses nest at most `depth` deep.
 #[cycle(conditions)]
 #[tactic(auto, unfolding(tql_syntax_grammar::specs::ReadingExpressions::mixed_over))]
 fn condition_or_expr_over<'a>(
@@ -505,7 +505,7 @@ fn condition_or_expr_over<'a>(
     }
 }
 
-/// A condition or an expression, of so many levels.
+/// Parses a condition or an expression of at most `depth` levels, itself included. Fails if `depth` is 0.
 #[cycle(conditions)]
 #[tactic(auto, unfolding(tql_syntax_grammar::specs::ReadingExpressions::mixed_at), using(tql_syntax_grammar::proofs::Levels::mixed_level))]
 fn condition_or_expr<'a>(
@@ -521,7 +521,7 @@ fn condition_or_expr<'a>(
     condition_or_expr_over(memory, tokens, depth - 1)
 }
 
-/// A condition, whose parentheses may go this deep.
+/// Parses a condition whose parentheses nest at most `depth` deep.
 #[tactic(auto, unfolding(tql_syntax_grammar::specs::ReadingExpressions::condition_over))]
 fn condition_over<'a>(
     memory: Memory,
@@ -535,7 +535,7 @@ fn condition_over<'a>(
     condition_behind(memory, tokens, depth, first)
 }
 
-/// A condition, of as many levels as there are tokens.
+/// Parses a condition, with the number of tokens as the bound on its levels.
 #[tactic(auto, unfolding(tql_syntax_grammar::specs::ReadingExpressions::condition_at), using(tql_syntax_grammar::proofs::Levels::condition_level))]
 pub fn condition_here<'a>(
     memory: Memory,

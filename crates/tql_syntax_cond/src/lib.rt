@@ -1,4 +1,4 @@
-//! Reading conditions: tests, and what AND, OR, NOT and parentheses make of them.
+//! Parsing conditions: tests, combined by AND, OR, NOT and parentheses.
 #![tactic(auto)]
 
 pub mod conditions;

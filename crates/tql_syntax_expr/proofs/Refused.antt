@@ -1,4 +1,4 @@
--- An error that a rule hands on.
+-- An error that a rule propagates.
 use Rattle.std.proofs.Common.{◌≡◌, rules, Result, Ok, Err}
 use Rattle.std.specs.Prelude.{◌≢◌, List}
 use Rattle.std.specs.Result.{IsErr, IsErrAnd}

@@ -1,4 +1,4 @@
--- What a rule of the parser reads.
+-- How the result of a parser function relates to the reading rule.
 use Rattle.std.specs.Prelude.{◌≡◌, ◌≢◌, List, Result, Ok, Err}
 use Rattle.tql_spec.specs.Token.{Token}
 use Rattle.tql_syntax_grammar.specs.Outcome.{Outcome, Failed, Read}
@@ -7,20 +7,20 @@ use Rattle.tql_syntax_expr.specs.declared.cursor.ParseError.TheVariants.{OutOfMe
 use Rattle.tql_value.specs.declared.refusal.Refusal.{Refusal}
 use Rattle.tql_value.specs.declared.refusal.Refusal.TheVariants as refusal
 
--- the refusal for an error
+-- the refusal that an error becomes
 abbrev pub refusal_for : ParseError → Refusal
 refusal_for OutOfMemory = refusal.OutOfMemory
 refusal_for NotInGrammar = refusal.NotAStatement
 
--- the rule reads what the result shows; an error that is not of memory says that it reads nothing
+-- the rule reads the view of the result; an error other than `OutOfMemory` says that the rule fails
 abbrev pub Reads : {A B : Type 0} → (A → B) → Outcome B → Result A ParseError → List Token → Type 0
 Reads view outcome (Ok a) new = outcome ≡ Read (view a) new
 Reads view outcome (Err e) new = e ≢ OutOfMemory → outcome ≡ Failed
 
--- a result that shows nothing
+-- the view of a result that carries nothing
 abbrev pub nothing : Unit {0} → Unit {0}
 nothing u = u
 
--- a result that shows itself
+-- the view of a result that is its own value
 abbrev pub itself : {A : Type 0} → A → A
 itself a = a

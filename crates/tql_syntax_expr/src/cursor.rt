@@ -1,4 +1,4 @@
-//! Reading tokens from the front.
+//! The token cursor: reading tokens from the front of a list.
 ghost use Rattle.std.specs.Prelude.{◌≡◌, map, length, option_map};
 ghost use Rattle.tql_spec.specs.Token as spec;
 ghost use Rattle.tql_lex.specs.Tokens.{token_of, symbol_of};
@@ -13,7 +13,7 @@ use tql_lex::token::{Symbol, Token, TokenKind};
 use tql_syntax_tree::expression::Name;
 use tql_value::refusal::Refusal;
 
-/// Why a rule reads nothing.
+/// Why a rule failed.
 #[derive(Debug, Drop)]
 pub enum ParseError {
     OutOfMemory,
@@ -68,7 +68,7 @@ fn is_name(token: &Token<'_>) -> bool
 }
 
 /// Returns the byte offset of a token in the statement's text. A statement has at most 2^20 bytes, so the offset fits;
-/// `u32::MAX` would stand for a larger one.
+/// a larger offset would be returned as `u32::MAX`.
 fn offset_of(token: &Token<'_>) -> u32 {
     match u32::try_from(token.start) {
         Ok(offset) => offset,
@@ -76,7 +76,7 @@ fn offset_of(token: &Token<'_>) -> u32 {
     }
 }
 
-/// The tokens that are not read yet.
+/// The tokens that are not parsed yet.
 #[derive(Drop)]
 pub struct Cursor<'t, 'a> {
     rest: &'t [Token<'a>],
@@ -93,14 +93,14 @@ impl<'t, 'a> Model for Cursor<'t, 'a> {
 }
 
 impl<'t, 'a> Cursor<'t, 'a> {
-    /// A cursor before the first of these tokens.
+    /// Creates a cursor at the first of these tokens.
     pub fn new(rest: &'t [Token<'a>]) -> Cursor<'t, 'a>
         ensures { result ≡ map token_of rest.now }
     {
         Cursor { rest }
     }
 
-    /// How many tokens are left.
+    /// Returns the number of tokens that are left.
     pub fn left(&self) -> usize
         ensures { result ≡ length self.now }
     {
@@ -115,7 +115,7 @@ impl<'t, 'a> Cursor<'t, 'a> {
         }
     }
 
-    /// Goes past the word, where it is in front; its letters are given in upper case.
+    /// Consumes the word, given in upper case, if it is next. Returns whether it was.
     pub fn eat_word(&mut self, word: &str) -> bool
         ensures { eat (spec.Word word.now) self.old ≡ (result, self.new) }
     {
@@ -128,7 +128,7 @@ impl<'t, 'a> Cursor<'t, 'a> {
         }
     }
 
-    /// Goes past the symbol, where it is in front.
+    /// Consumes the symbol if it is next. Returns whether it was.
     pub fn eat_symbol(&mut self, symbol: Symbol) -> bool
         ensures { eat (spec.Sign (symbol_of symbol)) self.old ≡ (result, self.new) }
     {
@@ -141,7 +141,7 @@ impl<'t, 'a> Cursor<'t, 'a> {
         }
     }
 
-    /// Goes past the word, which has to be in front; its letters are given in upper case.
+    /// Consumes the word, given in upper case. Fails if it is not next.
     #[tactic(auto, unfolding(tql_syntax_grammar::specs::Outcome::expect))]
     pub fn expect_word(&mut self, word: &str) -> Result<(), ParseError>
         ensures { Reads nothing (expect (spec.Word word.now) self.old) result self.new }
@@ -153,7 +153,7 @@ impl<'t, 'a> Cursor<'t, 'a> {
         }
     }
 
-    /// Goes past the symbol, which has to be in front.
+    /// Consumes the symbol. Fails if it is not next.
     #[tactic(auto, unfolding(tql_syntax_grammar::specs::Outcome::expect))]
     pub fn expect_symbol(&mut self, symbol: Symbol) -> Result<(), ParseError>
         ensures { Reads nothing (expect (spec.Sign (symbol_of symbol)) self.old) result self.new }
@@ -165,7 +165,7 @@ impl<'t, 'a> Cursor<'t, 'a> {
         }
     }
 
-    /// The name in front: a word that is not reserved, or a quoted name.
+    /// Consumes a name and returns it: a word that is not reserved, or a quoted name. Fails if none is next.
     #[tactic(auto, unfolding(tql_syntax_grammar::specs::Outcome::name_at))]
     pub fn name(&mut self) -> Result<Name<'a>, ParseError>
         ensures { Reads name_of (name_at self.old) result self.new }
@@ -191,7 +191,7 @@ impl<'t, 'a> Cursor<'t, 'a> {
         }
     }
 
-    /// The digits of the number in front.
+    /// Consumes a number and returns its digits. Fails if none is next.
     #[tactic(auto, unfolding(tql_syntax_grammar::specs::Outcome::number_at))]
     pub fn number(&mut self) -> Result<&'a str, ParseError>
         ensures { Reads digits_of (number_at self.old) result self.new }
@@ -205,7 +205,7 @@ impl<'t, 'a> Cursor<'t, 'a> {
         }
     }
 
-    /// The text in front, in its quotes.
+    /// Consumes a text and returns it with its quotes. Fails if none is next.
     #[tactic(auto, unfolding(tql_syntax_grammar::specs::Outcome::quote_at))]
     pub fn quote(&mut self) -> Result<&'a str, ParseError>
         ensures { Reads content_of (quote_at self.old) result self.new }
@@ -219,7 +219,7 @@ impl<'t, 'a> Cursor<'t, 'a> {
         }
     }
 
-    /// Whether the word is in front; its letters are given in upper case.
+    /// Whether the word, given in upper case, is next.
     pub fn begins_word(&self, word: &str) -> bool
         ensures { result ≡ spec_of.begins (spec.Word word.now) self.now }
     {
@@ -229,7 +229,7 @@ impl<'t, 'a> Cursor<'t, 'a> {
         }
     }
 
-    /// Whether the symbol is in front.
+    /// Whether the symbol is next.
     pub fn begins_symbol(&self, symbol: Symbol) -> bool
         ensures { result ≡ spec_of.begins (spec.Sign (symbol_of symbol)) self.now }
     {
@@ -239,7 +239,7 @@ impl<'t, 'a> Cursor<'t, 'a> {
         }
     }
 
-    /// Whether the word stands in the second place; its letters are given in upper case.
+    /// Whether the word, given in upper case, is the second token from here.
     pub fn second_is_word(&self, word: &str) -> bool
         ensures { result ≡ spec_of.begins_second (spec.Word word.now) self.now }
     {
@@ -249,7 +249,7 @@ impl<'t, 'a> Cursor<'t, 'a> {
         }
     }
 
-    /// Whether the symbol stands in the second place.
+    /// Whether the symbol is the second token from here.
     pub fn second_is_symbol(&self, symbol: Symbol) -> bool
         ensures { result ≡ spec_of.begins_second (spec.Sign (symbol_of symbol)) self.now }
     {
@@ -259,7 +259,7 @@ impl<'t, 'a> Cursor<'t, 'a> {
         }
     }
 
-    /// Whether the word stands in the third place; its letters are given in upper case.
+    /// Whether the word, given in upper case, is the third token from here.
     pub fn third_is_word(&self, word: &str) -> bool
         ensures { result ≡ spec_of.begins_third (spec.Word word.now) self.now }
     {
@@ -269,7 +269,7 @@ impl<'t, 'a> Cursor<'t, 'a> {
         }
     }
 
-    /// Whether a name is in front.
+    /// Whether a name is next.
     pub fn begins_name(&self) -> bool
         ensures { result ≡ spec_of.begins_name self.now }
     {
@@ -279,7 +279,7 @@ impl<'t, 'a> Cursor<'t, 'a> {
         }
     }
 
-    /// The digits of the number in front, where one is; goes past it.
+    /// Consumes a number if one is next, and returns its digits.
     pub fn eat_number(&mut self) -> Option<&'a str>
         ensures { eat_number self.old ≡ (option_map digits_of result, self.new) }
     {
@@ -292,7 +292,7 @@ impl<'t, 'a> Cursor<'t, 'a> {
         }
     }
 
-    /// The text in front in its quotes, where one is; goes past it.
+    /// Consumes a text if one is next, and returns it with its quotes.
     pub fn eat_quote(&mut self) -> Option<&'a str>
         ensures { eat_quote self.old ≡ (option_map content_of result, self.new) }
     {

@@ -1,4 +1,4 @@
-//! The parser's lower half: tokens taken from the front, lists, and expressions.
+//! The parser's lower half: the token cursor, lists, and expressions.
 #![tactic(auto)]
 
 pub mod cursor;

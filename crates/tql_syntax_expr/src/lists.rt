@@ -1,7 +1,7 @@
-//! Reading lists: as many items as a step gives, or with commas between.
+//! Parsing lists: items repeated as long as a step finds one, or items with commas between.
 //!
-//! The memory that holds a list is a parameter: a bound names the lifetime of the text, and no signature may name
-//! `'static` beside such a bound.
+//! The allocator of a list is a parameter. The reason is that a bound names the lifetime of the text, and no
+//! signature may name `'static` together with such a bound.
 ghost use Rattle.std.specs.Prelude.{List, map, Option, option_map, []};
 ghost use Rattle.tql_spec.specs.Token.{Token};
 ghost use Rattle.tql_syntax_grammar.specs.Outcome.{Outcome, more, next, separated};
@@ -11,9 +11,9 @@ use crate::cursor::{Cursor, ParseError};
 use std::alloc::Allocator;
 use tql_lex::token::Symbol;
 
-/// A rule that reads an item, where one is in front, as `step` says of the tokens; `view` is the tree of an item.
+/// A rule that parses an optional item, as specified by `step`; `view` is the tree of an item.
 ///
-/// It fails where the tokens in front are not in the grammar, or where `memory` is refused.
+/// It fails where the next tokens are not in the grammar, or where an allocation fails.
 pub trait Step<'a, A> {
     type Item: Drop;
 
@@ -27,9 +27,9 @@ pub trait Step<'a, A> {
         ensures { Reads (option_map view) (step self.now tokens.old) result tokens.new };
 }
 
-/// A rule that reads an item, as `rule` says of the tokens; `view` is the tree of an item.
+/// A rule that parses an item, as specified by `rule`; `view` is the tree of an item.
 ///
-/// It fails where the tokens in front are not in the grammar, or where `memory` is refused.
+/// It fails where the next tokens are not in the grammar, or where an allocation fails.
 pub trait Rule<'a, A> {
     type Item: Drop;
 
@@ -43,7 +43,7 @@ pub trait Rule<'a, A> {
         ensures { Reads view (rule self.now tokens.old) result tokens.new };
 }
 
-/// The step of a rule behind a comma: an item where a comma is in front.
+/// The step that parses a comma and an item, if a comma is next.
 #[derive(Drop)]
 struct Next<'r, R> {
     rule: &'r R,
@@ -67,7 +67,7 @@ impl<'r, 'a, A: Copy, R: Rule<'a, A>> Step<'a, A> for Next<'r, R> {
     }
 }
 
-/// As many items as the step gives, behind those that were found.
+/// Parses items as long as the step finds one, and appends them to `found`.
 fn extended<'a, A: Allocator + Copy, S: Step<'a, A>>(
     memory: A,
     tokens: &mut Cursor<'_, 'a>,
@@ -86,7 +86,7 @@ fn extended<'a, A: Allocator + Copy, S: Step<'a, A>>(
     Ok(found)
 }
 
-/// As many items as the step gives, in order. It fails where the step does, or where `memory` is refused.
+/// Parses items as long as the step finds one. It fails where the step does, or where an allocation fails.
 pub fn repeated<'a, A: Allocator + Copy, S: Step<'a, A>>(
     memory: A,
     tokens: &mut Cursor<'_, 'a>,
@@ -97,7 +97,7 @@ pub fn repeated<'a, A: Allocator + Copy, S: Step<'a, A>>(
     extended(memory, tokens, step, Vec::new(memory))
 }
 
-/// As many items as have a comma before them, in order. It fails where the rule does, or where `memory` is refused.
+/// Parses items as long as a comma is next. It fails where the rule does, or where an allocation fails.
 pub fn behind_commas<'a, A: Allocator + Copy, R: Rule<'a, A>>(
     memory: A,
     tokens: &mut Cursor<'_, 'a>,
@@ -108,7 +108,7 @@ pub fn behind_commas<'a, A: Allocator + Copy, R: Rule<'a, A>>(
     repeated(memory, tokens, &Next { rule })
 }
 
-/// One item or more with commas between, in order. It fails where the rule does, or where `memory` is refused.
+/// Parses one or more items with commas between. It fails where the rule does, or where an allocation fails.
 pub fn separated<'a, A: Allocator + Copy, R: Rule<'a, A>>(
     memory: A,
     tokens: &mut Cursor<'_, 'a>,

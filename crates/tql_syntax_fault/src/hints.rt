@@ -1,20 +1,20 @@
-//! What people write by habit of other systems, and what to write instead: one table, in four parts.
+//! Habits from other systems, and what to write instead: one table, in four parts.
 //!
-//! A hint is help only: no clause speaks of it, and a statement that has one stays refused. It is found by the tokens
-//! before the place where reading stopped and by the text from there on. The first that fits is shown, so a special
-//! case comes before the general one.
+//! A hint is help only: no clause mentions it, and a statement with a hint stays refused. It is found by the tokens
+//! before the place where reading stopped and by the text from there on. The first hint that fits is shown, so a
+//! special case comes before the general one.
 //!
-//! One rule holds for every hint: none advises a statement that changes or deletes rows in the place of one that would
-//! not. Where nothing here does the same, the hint says what is missing; where it reaches further, the hint says so.
+//! One rule holds for every hint: none replaces a statement that keeps all rows by one that changes or deletes rows. If
+//! nothing here does the same, the hint says what is missing. If the advice reaches further, the hint says so.
 use crate::matching::fits;
 use tql_lex::token::Token;
 
-/// A habit: the tokens before the place where reading stopped, what the text goes on with there, and the hint.
+/// A habit: the tokens before the place where reading stopped, the beginning of the text from there on, and the hint.
 ///
-/// The tokens before it are words and symbols in upper case, with single blanks between them, the last of them next to
-/// the place. `^` is the beginning of the statement, `_` any name, `#` any number, `'` any text in quotes. A token and
-/// `..` in front of the others: it is somewhere before them. What the text goes on with is tokens, a name `_`, or
-/// characters of which no token begins. Where one of the two is empty, anything fits.
+/// The tokens before the place are words and symbols in upper case, separated by single blanks; the last one is next to
+/// the place. `^` is the beginning of the statement, `_` any name, `#` any number, `'` any text in quotes. A token in
+/// front of `..` may be anywhere before the others. The text from the place on begins with tokens, a name `_`, or
+/// characters with which no token begins. If one of the two is empty, anything fits.
 struct Hint(&'static str, &'static str, &'static str);
 
 const ALL_MOMENTS: &str = "write BETWEEN, with the first and the last moment";
@@ -343,7 +343,7 @@ static QUERIES: [Hint; 54] = [
     Hint("NATURAL ..", "", "write JOIN, and ON with the columns"),
 ];
 
-/// Returns the hint of the first habit that fits.
+/// Returns the hint of the first of these habits that fits.
 fn first_hint(
     hints: &[Hint],
     before: &[Token<'_>],
@@ -358,7 +358,7 @@ fn first_hint(
     None
 }
 
-/// Returns the hint for a text of a habit, if it is one: by the tokens before the place where reading stopped, those
+/// Returns the hint of the first habit that fits, if any: by the tokens before the place where reading stopped, those
 /// from there on, and the text from there on.
 pub(crate) fn habit_hint(
     before: &[Token<'_>],

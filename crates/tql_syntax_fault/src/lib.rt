@@ -1,4 +1,4 @@
-//! The detail of a text that is no statement: where reading it stopped and what to write instead, or what it left open.
+//! The detail of a text that is not a statement: where reading stopped and what to write instead, or what is left open.
 #![tactic(auto)]
 
 mod hints;

@@ -1,4 +1,4 @@
-//! Which token of a refused text is shown: mostly the one at which reading stopped, or the one before it.
+//! The token of a refused text that is shown: usually the one at which reading stopped, or the one before it.
 use crate::matching::{is_name, is_plain};
 use tql_lex::token::{Symbol, Token, TokenKind};
 use tql_syntax::stop::Stopped;
@@ -31,7 +31,7 @@ fn is_one_of(token: &Token<'_>, words: &str) -> bool {
     false
 }
 
-/// The types of columns here, and those of other systems.
+/// The column types of this system, and those of other systems.
 const TYPES: &str = "INTEGER INT BIGINT VARCHAR DATE TIMESTAMP";
 
 const OTHER_TYPES: &str =
@@ -48,10 +48,10 @@ const LITERALS: &str = "DATE TIMESTAMP";
 /// The reserved words with which aggregates begin.
 const AGGREGATES: &str = "COUNT SUM MIN MAX";
 
-/// What other systems let stand in the place of a column of CREATE TABLE; here they are read as a column's name.
+/// Words that begin other elements of CREATE TABLE in other systems. Here they are read as a column's name.
 const ELEMENTS: &str = "INDEX KEY LIKE FULLTEXT SPATIAL";
 
-/// Whether these are the tokens of a CREATE.
+/// Whether these are the tokens of a CREATE statement.
 fn are_create(tokens: &[Token<'_>]) -> bool {
     tokens.first().is_some_and(|first| first.is_word("CREATE"))
 }
@@ -65,7 +65,7 @@ fn begins_element(before: &[Token<'_>]) -> bool {
     is_behind && are_create(before)
 }
 
-/// Whether a reserved word and a type stand where a column of CREATE TABLE begins.
+/// Whether a column of CREATE TABLE begins here with a reserved word and a type.
 fn is_reserved_column(before: &[Token<'_>], behind: &[Token<'_>]) -> bool {
     match behind {
         [word, kind, ..] => { word.is_reserved() && is_type(kind) && begins_element(before) }
@@ -73,8 +73,8 @@ fn is_reserved_column(before: &[Token<'_>], behind: &[Token<'_>]) -> bool {
     }
 }
 
-/// Whether the token with which an operand begins goes on as such: a literal with its text, which may lack its quotes
-/// or have double ones, an aggregate or a period with a parenthesis.
+/// Whether the token with which an operand begins is continued: a literal by its text, which may lack its quotes or
+/// have double ones; an aggregate or a period by a parenthesis.
 fn goes_on(word: &Token<'_>, next: Option<&Token<'_>>) -> bool {
     let Some(next) = next else {
         return false;
@@ -89,7 +89,7 @@ fn goes_on(word: &Token<'_>, next: Option<&Token<'_>>) -> bool {
     }
 }
 
-/// Whether a reserved word with which an operand begins stands alone. In CREATE TABLE, DATE and TIMESTAMP after a
+/// Whether a reserved word with which an operand begins is not continued. In CREATE TABLE, DATE and TIMESTAMP after a
 /// column's name are types, MAX may be a length, and PERIOD begins an element.
 fn is_bare_beginning(before: &[Token<'_>], behind: &[Token<'_>]) -> bool {
     let [word, rest @ ..] = behind else {
@@ -104,13 +104,12 @@ fn is_bare_beginning(before: &[Token<'_>], behind: &[Token<'_>]) -> bool {
     is_beginning && !before.is_empty() && !goes_on(word, rest.first())
 }
 
-/// Whether a name was meant by the first of the second tokens, which is a word that is never one; the first ones come
-/// before it.
+/// Whether the reserved word that follows the tokens `before` was meant as a name.
 pub(crate) fn is_name_meant(before: &[Token<'_>], behind: &[Token<'_>]) -> bool {
     is_reserved_column(before, behind) || is_bare_beginning(before, behind)
 }
 
-/// Whether a word was read as a column's name of CREATE TABLE that begins another element in other systems.
+/// Whether a word was read as a column's name of CREATE TABLE, but begins another element in other systems.
 fn is_element(before: &[Token<'_>], behind: &[Token<'_>]) -> bool {
     match behind {
         [word, next, ..] => {
@@ -120,7 +119,7 @@ fn is_element(before: &[Token<'_>], behind: &[Token<'_>]) -> bool {
     }
 }
 
-/// Whether a word before a `(` was read as a name, or a word between two operands as the other name of the first.
+/// Whether a word before a `(` was read as a name, or a word between two operands as an alias of the first.
 fn is_alias(last: &Token<'_>, behind: &[Token<'_>]) -> bool {
     match behind {
         [word, open, ..] if is_plain(word) && open.is_sign(Symbol::Open) => true,
@@ -134,13 +133,13 @@ fn is_alias(last: &Token<'_>, behind: &[Token<'_>]) -> bool {
     }
 }
 
-/// Whether an operand may stand at the end of these tokens or after them. Statements of transactions, of the clock, of
-/// the horizon and of readers begin with words that are not reserved, and have no operand before a reserved one.
+/// Whether an operand may be at the end of these tokens or after them. Statements about transactions, the clock, the
+/// horizon and readers begin with words that are not reserved, and have no operand before a reserved one.
 fn may_have_operands(tokens: &[Token<'_>]) -> bool {
     tokens.iter().any(|token| token.is_reserved())
 }
 
-/// Whether reading stopped one token late, after the first of the second tokens.
+/// Whether reading stopped one token late, after the first token of `behind`.
 fn is_late(before: &[Token<'_>], behind: &[Token<'_>]) -> bool {
     let Some(last) = before.last() else {
         return false;
@@ -152,11 +151,11 @@ fn is_late(before: &[Token<'_>], behind: &[Token<'_>]) -> bool {
     may_have_operands(before) && is_alias(last, behind)
 }
 
-/// Returns the place of the token that is shown, among those of the text.
+/// Returns the index of the token that is shown, among those of the text.
 ///
-/// A word that was read as another name of what comes before it, as `FRM` in `SELECT x FRM t`, is shown in the place of
-/// the token after it, and so is a reserved word where a name was meant. Where no token begins, as at `@`, the name
-/// before it is not blamed.
+/// A word may have been read as an alias of what precedes it, as `FRM` in `SELECT x FRM t`. Then the word is shown
+/// instead of the token after it. So is a reserved word where a name was meant. If no token begins at the place, as at
+/// `@`, the name before it is not blamed.
 pub(crate) fn shown_place(stopped: &Stopped<'_>) -> usize {
     let tokens = stopped.front.tokens.as_slice();
     let Some(place) = stopped.read.checked_sub(1) else {

@@ -1,4 +1,4 @@
-//! Where reading a text stopped, in words.
+//! Messages for the place where reading a text stopped.
 use crate::hints::habit_hint;
 use crate::matching::is_plain;
 use crate::places::{is_name_meant, shown_place};
@@ -10,7 +10,7 @@ use tql_lex::token::{Symbol, Token};
 use tql_memory::Memory;
 use tql_syntax::stop::{Stopped, depth_stop_of, stop_of};
 
-/// The hints that rest on more than a few tokens.
+/// Hints that need more context than a few tokens.
 const DEEP: &str = "at most 64 parentheses may be open at once";
 
 const QUOTED: &str = "write it in double quotes";
@@ -19,12 +19,12 @@ const FUNCTIONS: &str = "the only functions are COUNT, SUM, MIN and MAX";
 
 const NO_TABLE: &str = "FROM and a table are missing";
 
-/// Returns the text before this byte.
+/// Returns the text before this byte offset.
 fn front_of(text: &str, end: usize) -> &str {
     text.get(..end).unwrap_or("")
 }
 
-/// Whether these are the tokens of a query without FROM, a reader's or not.
+/// Whether these are the tokens of a query without FROM, with READ before it or not.
 fn lacks_from(before: &[Token<'_>]) -> bool {
     let is_query = match before {
         [read, _, select, ..] if read.is_word("READ") => select.is_word("SELECT"),
@@ -34,7 +34,7 @@ fn lacks_from(before: &[Token<'_>]) -> bool {
     is_query && !before.iter().any(|token| token.is_word("FROM"))
 }
 
-/// Whether a call of an unknown function begins with the second tokens; the first ones come before it.
+/// Whether a call of an unknown function follows these tokens of a statement other than CREATE.
 fn begins_call(before: &[Token<'_>], behind: &[Token<'_>]) -> bool {
     let is_call = match behind {
         [name, open, ..] => is_plain(name) && open.is_sign(Symbol::Open),
@@ -47,8 +47,8 @@ fn begins_call(before: &[Token<'_>], behind: &[Token<'_>]) -> bool {
     is_call && in_change
 }
 
-/// Returns what to write instead, if that is known: by the tokens before the place where reading stopped, those from
-/// there on, and the text from there on.
+/// Returns what to write instead, if known: by the tokens before the place where reading stopped, those from there on,
+/// and the text from there on.
 fn hint_for(before: &[Token<'_>], behind: &[Token<'_>], rest: &str) -> Option<&'static str> {
     if is_name_meant(before, behind) {
         return Some(QUOTED);
@@ -65,7 +65,7 @@ fn hint_for(before: &[Token<'_>], behind: &[Token<'_>], rest: &str) -> Option<&'
     }
 }
 
-/// Adds a token to the words, and whether it is a word that is never a name.
+/// Adds a token to the words, and whether it is a reserved word.
 fn push_token(words: &mut Words, token: &Token<'_>) -> Result<(), AllocError> {
     words.push_str("at \"")?;
     push_shown(words, token.text)?;
@@ -91,8 +91,8 @@ fn push_character(words: &mut Words, text: &str) -> Result<(), AllocError> {
     }
 }
 
-/// Returns the words for a text at which reading stopped, at these tokens or, behind them all, at this rest of the
-/// text. The only error is a refused allocation.
+/// Returns the words for the place where reading stopped: at the first of these tokens or, without any, at this rest of
+/// the text. The only error is a refused allocation.
 fn words_of(memory: Memory, behind: &[Token<'_>], rest: &str) -> Result<Words, AllocError> {
     let mut words = String::new(memory);
     match behind {
@@ -102,7 +102,7 @@ fn words_of(memory: Memory, behind: &[Token<'_>], rest: &str) -> Result<Words, A
     Ok(words)
 }
 
-/// Returns the detail for a text at which reading stopped, at this of its tokens.
+/// Returns the detail for a text at which reading stopped, at the token with this index.
 fn detail_at(memory: Memory, text: &str, stopped: &Stopped<'_>, place: usize) -> Option<Detail> {
     let tokens = stopped.front.tokens.as_slice();
     let before = tokens.get(..place).unwrap_or(&[]);
@@ -125,8 +125,8 @@ fn detail_at(memory: Memory, text: &str, stopped: &Stopped<'_>, place: usize) ->
     Some(detail)
 }
 
-/// Returns the detail of a finished statement's text that is refused as not a statement: where reading it stopped, and
-/// for habits of other systems what to write instead. None where memory is refused.
+/// Returns the detail of a complete text that is refused as not a statement: where reading stopped, and for habits from
+/// other systems what to write instead. None if an allocation is refused.
 pub fn syntax_detail(memory: Memory, text: &[u8]) -> Option<Detail> {
     let text = str::from_utf8(text).ok()?;
     let stopped = stop_of(memory, text)?;
@@ -134,8 +134,8 @@ pub fn syntax_detail(memory: Memory, text: &[u8]) -> Option<Detail> {
     detail_at(memory, text, &stopped, place)
 }
 
-/// Returns the detail of a finished statement's text that is refused as nested too deep: the 65th parenthesis that is
-/// open at once. None where there is none, or where memory is refused.
+/// Returns the detail of a complete text that is refused as nested too deep: the 65th parenthesis that is open at once.
+/// None if there is none, or if an allocation is refused.
 pub fn depth_detail(memory: Memory, text: &[u8]) -> Option<Detail> {
     let text = str::from_utf8(text).ok()?;
     let stopped = depth_stop_of(memory, text)?;

@@ -3,7 +3,7 @@ use tql_detail::detail::Detail;
 use tql_detail::place::Place;
 use tql_memory::Memory;
 
-/// What the bytes of a text so far have opened and not closed. A quote has its mark and the byte offset of it.
+/// What the bytes so far have opened and not closed. A quote has its mark and its byte offset.
 #[derive(Clone, Copy)]
 enum Open {
     Nothing,
@@ -31,8 +31,8 @@ impl Open {
     }
 }
 
-/// Returns the detail of the text at the end of a script that no `;` ends: the quote that is not closed, or that there
-/// is none. None if an allocation is refused.
+/// Returns the detail of the text at the end of a script without a final `;`: the quote that is not closed, or that the
+/// `;` is missing. None if an allocation is refused.
 pub fn unfinished_detail(memory: Memory, text: &[u8]) -> Option<Detail> {
     let mut open = Open::Nothing;
     for (offset, byte) in text.iter().enumerate() {

@@ -1,4 +1,4 @@
--- INSERT, UPDATE and DELETE: what is read is spelled, and what is spelled is read.
+-- INSERT, UPDATE and DELETE: the reading rules are sound and complete.
 use Rattle.std.specs.Prelude.{◌≡◌, refl, List, [], ◌∷◌, codes, Option, Some, None}
 use Rattle.std.proofs.Common.{sym, subst, inl, inr}
 use Rattle.tql_spec.specs.Definition.{Name}
@@ -55,7 +55,7 @@ tuple_sound ts t rest e =
     (first.1, cell_sound _ _ _ first.2, more_next_is cell cell_at cell_sound _ _ _ others.2) in
     spelled tuple {x = record { first = first.0; more = others.0 }} close.2 (others.1, (a.0, a.1, cells), close.1)
 
--- cells end before a parenthesis that closes
+-- cells end before `)`
 cells_end : (ts us : List Token) → ts ≡ Sign Close ∷ us → EndsList EndsExpr ts
 cells_end ts us e =
     record {
@@ -167,7 +167,7 @@ update_sound ts us s rest word e =
 condition_ends : EndsCondition []
 condition_ends = record { expr = record { dot = refl; star = refl; plus = refl; minus = refl }; also = refl; or = refl }
 
--- assignments end before [WHERE ..] and no more
+-- assignments end before a last [WHERE ..]
 changes_end : (ts : List Token) (c : Option Condition) → where_clause c ts [] → EndsList EndsExpr ts
 changes_end ts None s =
     record {
@@ -214,7 +214,7 @@ delete_sound ts us s rest word e =
     subst (λ (x : Statement). statement x ts rest) w.2
     (p.1, (n.1, (from.0, (us, word, from.1), name_is _ _ _ n.2), portion_sound _ _ _ p.2), where_sound _ _ _ w.1)
 
--- FOR is not in front of [WHERE ..] and no more
+-- FOR is not in front of a last [WHERE ..]
 where_no_for : (ts : List Token) (c : Option Condition) → where_clause c ts [] → Stops (Word (codes "FOR")) ts
 where_no_for ts None s = rw s refl
 where_no_for ts (Some c) s = rw s.1 refl

@@ -1,4 +1,4 @@
--- Types, columns and periods: what is read is spelled, and what is spelled is read.
+-- Types, columns and periods: the reading rules are sound and complete.
 use Rattle.std.specs.Prelude.{◌≡◌, refl, ℕ, Bool, true, false, ◌||◌, List, ◌∷◌, codes, Option, Some, None}
 use Rattle.std.proofs.Common.{sym, ◌∙◌, subst, inl, inr}
 use Rattle.tql_spec.specs.Definition.{Name}
@@ -71,7 +71,7 @@ zone_complete ts u rest s stops =
       | inr w ↦ rw (eat_of _ _ _ w.1.1, expected_of w.1.2, expected_of w.2) refl
     ]
 
--- what has to be known of the tokens behind a type
+-- the condition on the tokens after a type
 pub record EndsType (rest : List Token) : Type 0 where
   pub opened : Stops (Sign Open) rest
   pub without : Stops (Word (codes "WITHOUT")) rest
@@ -110,7 +110,7 @@ type_sound ts t rest e =
           ]
     ]
 
--- in front of [WITHOUT TIME ZONE] no parenthesis opens, where none does behind it
+-- no `(` is in front of [WITHOUT TIME ZONE], if none is after it
 zone_front : (ts rest : List Token) → zone ts rest → Stops (Sign Open) rest → Stops (Sign Open) ts
 zone_front ts rest s stops = elim s [ inl n ↦ rw n stops | inr w ↦ rw w.1.1 refl ]
 
@@ -207,7 +207,7 @@ column_sound ts e rest r =
           spelled element {x = column_of n.0 t.0 first.0 None false} end (t.1, head, tail)
     ]
 
--- what has to be known of the tokens behind a column
+-- the condition on the tokens after a column
 pub record EndsColumn (rest : List Token) : Type 0 where
   pub type_name : EndsType rest
   pub not : Stops (Word (codes "NOT")) rest
@@ -225,7 +225,7 @@ tail_front true (Some g) ts rest s ends =
       | inr a ↦ let w = a.1.1.1.1.1 in record { opened = rw w refl; without = rw w refl }
     ]
 
--- what stands behind the type of a column
+-- the rest of a column after its type
 abbrev tail_at : Name → TypeName → Parser Element
 tail_at n t ts =
     not_null_at ts >>= λ first c. behind (Word (codes "GENERATED")) generated_at c >>= λ g d. column_end n t first g d

@@ -1,4 +1,4 @@
--- The tokens that conditions and periods begin with, and how many they take.
+-- The first tokens of conditions and periods, and how many tokens they take.
 use Rattle.std.specs.Prelude.{◌≡◌, refl, ◌<◌, ◌≤◌, Bool, true, false, ◌&&◌, List, [], ◌∷◌, codes, length, Option}
 use Rattle.std.specs.Prelude.{Some, None}
 use Rattle.std.specs.List.{list_any}
@@ -136,7 +136,7 @@ mutual
       let second = expr_shortens s.0 e rest s.2 in
       omega (arith, ap length s.1.2)
 
--- ---- what a marked period begins with
+-- ---- the first tokens of a marked period
 
 second_behind_name : (t : Token) (n : Name) (ts rest : List Token) → name n ts rest → begins_second t ts ≡ begins t rest
 second_behind_name t n ts rest s = elim s [ inl w ↦ rw w.0 refl | inr q ↦ rw q refl ]
@@ -169,7 +169,7 @@ marked_begins (SystemTime (Some n)) ts rest s =
 abbrev begins_qualified : List Token → Bool
 begins_qualified ts = begins_name ts && (begins_second (Sign Dot) ts && begins_third (Word (codes "SYSTEM_TIME")) ts)
 
--- no period is in front of what begins with neither word and no qualified SYSTEM_TIME
+-- no marked period is in front, if PERIOD, SYSTEM_TIME and a qualified SYSTEM_TIME are not
 unmarked_by : (test : Token → Bool) (ts : List Token) → test (Word (codes "PERIOD")) ≡ false
     → test (Word (codes "SYSTEM_TIME")) ≡ false → Begins test ts → begins_qualified ts ≡ false
     → begins_marked ts ≡ false
@@ -267,7 +267,7 @@ stops_test (RelationTest x r y) ts rest s = stops_operand x ts s.1.0 s.1.1
 stops_test (ContainsPeriod x m) ts rest s = stops_operand x ts s.1.0 s.1.1
 stops_test (ContainsPoint x e) ts rest s = stops_operand x ts s.1.0 s.1.1
 
--- ---- behind an expression or an operand
+-- ---- after an expression or an operand
 
 -- an expression ends before a comparison
 pub comparison_front : (op : Comparison) (ts rest : List Token) → comparison op ts rest → Begins ends_expr ts
@@ -284,7 +284,7 @@ pub negation_front : (b : Bool) (w : Name) (ts mid rest : List Token) → negati
 negation_front true w ts mid rest s is = at_token ends_expr (Word (codes "NOT")) ts mid refl s
 negation_front false w ts mid rest s is = at_token ends_expr (Word w) ts rest refl (s ∙ is)
 
--- whether a token begins what stands behind an operand
+-- whether a token may follow an operand in a test
 abbrev pub relates : Token → Bool
 relates (Word w) =
     list_any (same_text w)

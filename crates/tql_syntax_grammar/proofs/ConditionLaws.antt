@@ -1,4 +1,4 @@
--- Conditions: what is spelled is read.
+-- Conditions: the reading rules are complete.
 use Rattle.std.specs.Prelude.{◌≡◌, refl, ℕ, zero, suc, ◌≤◌, Bool, true, false, List, [], ◌∷◌, codes, length, Option}
 use Rattle.std.specs.Prelude.{Some, None}
 use Rattle.std.proofs.Common.{sym, ◌∙◌, ap, subst, arith}
@@ -92,7 +92,7 @@ no_comparison ts b =
 abbrev pub AtClose : List Token → Type 0
 AtClose ts = (rest : List Token) × (ts ≡ Sign Close ∷ rest)
 
--- ---- the parts behind the first
+-- ---- the parts after the first
 
 abbrev test_list : MoreTests → List Factor
 test_list NoTest = []
@@ -129,12 +129,12 @@ or_shortens ts c rest s = let h = conj_shortens s.0 c rest s.2 in omega (arith, 
 comma_shortens : Shortens (behind_comma expr)
 comma_shortens ts e rest s = let h = expr_shortens s.0 e rest s.2 in omega (arith, ap length s.1)
 
--- what stands behind a part of a conjunction
+-- an expression ends before the further factors of a conjunction
 tests_front : (m : MoreTests) (ts rest : List Token) → more_tests m ts rest → EndsExpr rest → EndsExpr ts
 tests_front NoTest ts rest s ends = subst EndsExpr (sym s) ends
 tests_front (AndTest f more) ts rest s ends = ends_before (Word (codes "AND")) ts s.1.0 refl s.1.1
 
--- a conjunction ends here
+-- the condition on the tokens after a conjunction
 record EndsConj (rest : List Token) : Type 0 where
   expr : EndsExpr rest
   also : Stops (Word (codes "AND")) rest
@@ -153,12 +153,12 @@ close_ends ts close = record {
   or = rw close.1 refl;
 }
 
--- what stands behind a conjunction
+-- a conjunction ends before the further conjunctions of a condition
 conjs_front : (m : MoreConjs) (ts rest : List Token) → more_conjs m ts rest → EndsConj rest → EndsConj ts
 conjs_front NoConj ts rest s ends = subst EndsConj (sym s) ends
 conjs_front (OrConj c more) ts rest s ends = or_front ts s.1.0 s.1.1
 
--- ---- the rules over expressions that lie one level deeper
+-- ---- the rules, given the rule for expressions one level deeper
 
 module _ (n : ℕ) (inner : Parser Sum) (reads : ReadsWithin n EndsExpr expr inner) where
   qualified_of : (q : List ℕ) (ts rest : List Token) → (name q ⨟ sign Dot ⨟ key (codes "SYSTEM_TIME")) ts rest
@@ -210,7 +210,7 @@ module _ (n : ℕ) (inner : Parser Sum) (reads : ReadsWithin n EndsExpr expr inn
   operand_of ts (ByName r) rest fuel s stops =
       rw (named_unmarked r ts rest s stops, named_complete ts r rest s stops) refl
 
-  -- behind an operand
+  -- after an operand
   relation_test_of : (x : Operand) (r : Relation) (y : Operand) (ts mid rest : List Token) → length ts ≤ suc n
       → relation r ts mid → operand y mid rest → Stops (Sign Dot) rest
       → related_over inner x ts ≡ Read (Some (RelationTest x r y)) rest
@@ -235,7 +235,7 @@ module _ (n : ℕ) (inner : Parser Sum) (reads : ReadsWithin n EndsExpr expr inn
   point_of x e ts rest fuel s ends =
       rw (expr_unmarked e ts rest s ends, sum_of n inner reads ts e rest fuel s ends) refl
 
-  -- behind an expression
+  -- after an expression
   compared_of : (e : Sum) (op : Comparison) (b : Sum) (ts mid rest : List Token) → length mid ≤ suc n
       → comparison op ts mid → expr b mid rest → EndsExpr rest
       → test_behind inner e ts ≡ Read (WholeTest (Compared op e b)) rest
@@ -253,7 +253,7 @@ module _ (n : ℕ) (inner : Parser Sum) (reads : ReadsWithin n EndsExpr expr inn
             null,
       ) refl
 
-  -- a word behind an expression, and then the rest of the test
+  -- after an expression: a word and the rest of the test
   is_of : (e : Sum) (t : Test) (ts mid rest : List Token) → ts ≡ Word (codes "IS") ∷ mid
       → null_test_at e mid ≡ Read t rest → test_behind inner e ts ≡ Read (WholeTest t) rest
   unfolding test_behind comparison_at word_test_over
@@ -274,7 +274,7 @@ module _ (n : ℕ) (inner : Parser Sum) (reads : ReadsWithin n EndsExpr expr inn
   unfolding test_behind comparison_at word_test_over
   in_of e t ts mid rest is r = rw (is, r) refl
 
-  -- low AND high, behind [NOT] BETWEEN
+  -- after [NOT] BETWEEN: low AND high
   range_of : (b : Bool) (e low high : Sum) (ts rest : List Token) → length ts ≤ suc n
       → (expr low ⨟ key (codes "AND") ⨟ expr high) ts rest → EndsExpr rest
       → between_over inner b e ts ≡ Read (BetweenTest b e low high) rest
@@ -303,13 +303,13 @@ module _ (n : ℕ) (inner : Parser Sum) (reads : ReadsWithin n EndsExpr expr inn
       (ends_before (Sign Close) mid rest refl close)
       (behind_none (Sign Comma) (sum_over inner) mid (rw close refl))
 
-  -- what stands behind an expression of a list
+  -- an expression of a list ends before the further expressions
   behind_list : (es : List Sum) (ts rest : List Token) → each (behind_comma expr) es ts rest → EndsExpr rest
       → EndsExpr ts
   behind_list = commas_front expr (sum_over inner) EndsExpr
       (λ us. ends_before (Sign Comma) (Sign Comma ∷ us) us refl refl)
 
-  -- ( expr {, expr} ), behind [NOT] IN
+  -- after [NOT] IN: ( expr {, expr} )
   list_of : (b : Bool) (e x : Sum) (xs : List Sum) (ts rest : List Token) → length ts ≤ suc n
       → in_parens (commas expr x xs) ts rest → in_over inner b e ts ≡ Read (InTest b e x xs) rest
   unfolding in_over
@@ -336,21 +336,21 @@ module _ (n : ℕ) (inner : Parser Sum) (reads : ReadsWithin n EndsExpr expr inn
   unfolding denied_over
   denied_in_of e t ts mid rest is r = rw (is, expect_of (Word (codes "IN")) (Word (codes "IN") ∷ mid) mid refl, r) refl
 
-  -- [NOT] BETWEEN, and then the rest of the test
+  -- after an expression: [NOT] BETWEEN and the rest of the test
   between_behind : (b : Bool) (e : Sum) (t : Test) (ts a mid rest : List Token) → negation b ts a
       → a ≡ Word (codes "BETWEEN") ∷ mid → between_over inner b e mid ≡ Read t rest
       → test_behind inner e ts ≡ Read (WholeTest t) rest
   between_behind true e t ts a mid rest not is r = not_of e t ts a rest not (denied_between_of e t a mid rest is r)
   between_behind false e t ts a mid rest not is r = between_of e t ts mid rest (not ∙ is) r
 
-  -- [NOT] IN, and then the rest of the test
+  -- after an expression: [NOT] IN and the rest of the test
   in_behind : (b : Bool) (e : Sum) (t : Test) (ts a mid rest : List Token) → negation b ts a
       → a ≡ Word (codes "IN") ∷ mid → in_over inner b e mid ≡ Read t rest
       → test_behind inner e ts ≡ Read (WholeTest t) rest
   in_behind true e t ts a mid rest not is r = not_of e t ts a rest not (denied_in_of e t a mid rest is r)
   in_behind false e t ts a mid rest not is r = in_of e t ts mid rest (not ∙ is) r
 
-  -- one column reference, and then a word that relates operands
+  -- after one column reference: a word that relates operands
   word_behind_column : (r : Named) (t : Test) (ts rest : List Token) → Begins relates ts
       → related_over inner (ByName r) ts ≡ Read (Some t) rest
       → word_test_over inner (Terms (Factors (Unsigned (ColumnNamed r)) NoFactor) NoTerm) ts ≡ Read (WholeTest t) rest
@@ -370,7 +370,7 @@ module _ (n : ℕ) (inner : Parser Sum) (reads : ReadsWithin n EndsExpr expr inn
   unfolding test_behind
   column_behind r t ts rest b e = rw (no_comparison ts b, word_behind_column r t ts rest b e) refl
 
-  -- nothing goes on before `)`
+  -- before `)`, an expression does not continue as a test
   unrelated : (e : Sum) (r : Option Named) (ts rest : List Token) → ts ≡ Sign Close ∷ rest
       → period_test_over inner e r ts ≡ Read (BareExpr e) ts
   unfolding related_over relation_at
@@ -382,7 +382,7 @@ module _ (n : ℕ) (inner : Parser Sum) (reads : ReadsWithin n EndsExpr expr inn
   unfolding test_behind comparison_at word_test_over
   bare_behind e ts rest close = rw close (unrelated e (as_named e) (Sign Close ∷ rest) rest refl)
 
-  -- and over what lies between parentheses
+  -- and given the rule for the content of parentheses
   module _ (mixed : Parser Mixed) (reads_mixed : ReadsWithin n AtClose mixed_phrase mixed) where
     opened_is : (ts a : List Token) → ts ≡ Sign Open ∷ a → tested_over inner mixed ts ≡ opened_over inner mixed a
     unfolding tested_over
@@ -418,7 +418,7 @@ module _ (n : ℕ) (inner : Parser Sum) (reads : ReadsWithin n EndsExpr expr inn
           sum_of n inner reads ts e mid fuel s ends,
         ) refl
 
-    -- behind an expression a test goes on
+    -- after an expression, the rest of a test is read
     tested_expr_of : (e : Sum) (ts mid : List Token) → length ts ≤ suc n → expr e ts mid → EndsExpr mid
         → tested_over inner mixed ts ≡ test_behind inner e mid
     tested_expr_of (Terms (Factors (Unsigned (Enclosed e)) fs) ms) ts mid fuel s ends =
@@ -557,7 +557,7 @@ module _ (n : ℕ) (inner : Parser Sum) (reads : ReadsWithin n EndsExpr expr inn
         (λ us c vs w. or_front us w.0 w.1) or_shortens ts (conj_list m) rest fuel (conjs_each m ts rest s)
         (ends_conj rest ends) (no_conj rest ends.or)
 
-    -- the condition that begins with this factor
+    -- the rest of the condition that begins with this factor
     condition_behind_of : (f : Factor) (ts : List Token) (m : MoreTests) (mid : List Token) (k : MoreConjs)
         (rest : List Token) → length ts ≤ suc n → more_tests m ts mid → more_conjs k mid rest → EndsCondition rest
         → condition_behind inner mixed f ts ≡ Read (AnyOf (AllOf f m) k) rest

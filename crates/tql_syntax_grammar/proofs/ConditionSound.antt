@@ -1,4 +1,4 @@
--- Conditions: what is read is spelled.
+-- Conditions: the reading rules are sound.
 use Rattle.std.specs.Prelude.{◌≡◌, refl, ℕ, zero, suc, Bool, true, false, List, [], ◌∷◌, codes, length, Option, Some}
 use Rattle.std.specs.Prelude.{None}
 use Rattle.std.proofs.Common.{sym, ◌∙◌, ap, subst, inl, inr}
@@ -51,7 +51,7 @@ comparison_sound =
     (found_or (optional comparison) (Sign AtLeastSign) (Some AtLeast) _ (λ ts rest e. e)
     (found_sound (optional comparison) None (λ ts. refl)))))))
 
--- PRECEDES or SUCCEEDS, behind IMMEDIATELY
+-- after IMMEDIATELY: PRECEDES or SUCCEEDS
 immediate_sound : (before ts : List Token) → before ≡ Word (codes "IMMEDIATELY") ∷ ts
     → (r : Relation) (rest : List Token) → immediate_at ts ≡ Read r rest → relation r before rest
 unfolding immediate_at
@@ -85,7 +85,7 @@ negation_by : (b : Bool) (ts : List Token) → (eat (Word (codes "NOT")) ts).0 �
 negation_by true ts e = eat_true (Word (codes "NOT")) ts e
 negation_by false ts e = sym (eat_false (Word (codes "NOT")) ts e)
 
--- an expression that is one column reference is spelled as that
+-- an expression that is one column reference is spelled as that reference
 column_alone : (e : Sum) (r : Named) (before ts : List Token) → as_named e ≡ Some r → expr e before ts
     → named r before ts
 column_alone (Terms (Factors (Unsigned (ColumnNamed q)) NoFactor) NoTerm) r before ts is s =
@@ -105,12 +105,12 @@ abbrev pub mixed_phrase : Mixed → Phrase
 mixed_phrase (WholeCondition c) = condition c
 mixed_phrase (WholeExpr e) = expr e
 
--- a test that the tokens before have begun, or nothing
+-- a test that began with the tokens `before`, or nothing
 abbrev related : List Token → Option Test → Phrase
 related before None = λ ts rest. ts ≡ rest
 related before (Some t) = λ ts rest. test t before rest
 
--- ---- the parts behind the first
+-- ---- the parts after the first
 
 tests_spelled : (fs : List Factor) (ts rest : List Token) → each (λ f. key (codes "AND") ⨟ factor f) fs ts rest
     → more_tests (tests_of fs) ts rest
@@ -122,7 +122,7 @@ conjs_spelled : (cs : List Conj) (ts rest : List Token) → each (λ c. key (cod
 conjs_spelled [] ts rest s = s
 conjs_spelled (c ∷ cs) ts rest s = (s.0, s.1, conjs_spelled cs s.0 rest s.2)
 
--- ---- the rules over expressions that lie one level deeper
+-- ---- the rules, given the rule for expressions one level deeper
 
 module _ (inner : Parser Sum) (sound : Sound expr inner) where
   ends_sound : (before ts : List Token) → before ≡ Word (codes "PERIOD") ∷ ts → (m : Marked) (rest : List Token)
@@ -166,7 +166,7 @@ module _ (inner : Parser Sum) (sound : Sound expr inner) where
         | inr a ↦ made_is operand ByName (named_at ts) ts x rest (λ r o. named_sound ts r rest o) a.1
       ]
 
-  -- CONTAINS is read
+  -- after CONTAINS
   contained_sound : (x : Operand) (before mid ts : List Token) → operand x before mid
       → mid ≡ Word (codes "CONTAINS") ∷ ts → (t : Test) (rest : List Token) → contained_over inner x ts ≡ Read t rest
       → test t before rest
@@ -251,7 +251,7 @@ module _ (inner : Parser Sum) (sound : Sound expr inner) where
       ))
       xs.3
 
-  -- NOT is read
+  -- after NOT
   denied_sound : (e : Sum) (before mid ts : List Token) → expr e before mid → mid ≡ Word (codes "NOT") ∷ ts
       → (t : Test) (rest : List Token) → denied_over inner e ts ≡ Read t rest → test t before rest
   unfolding denied_over
@@ -283,7 +283,7 @@ module _ (inner : Parser Sum) (sound : Sound expr inner) where
       ) q ws a.2)
       ts t rest r refl
 
-  -- what was found behind the expression, or it alone
+  -- the test that was found after the expression, or the expression alone
   or_alone : (e : Sum) (before ts : List Token) → expr e before ts → (o : Option Test) (rest : List Token)
       → related before o ts rest → tested (test_or e o) before rest
   or_alone e before ts first None rest s = subst (λ us. expr e before us) s first
@@ -331,7 +331,7 @@ module _ (inner : Parser Sum) (sound : Sound expr inner) where
       made_is tested (λ b. WholeTest (Compared op e b)) (sum_over inner mid) before x rest
       (λ b o. (mid, (ts, first, s), sum_sound inner sound mid b rest o)) w
 
-  -- behind this expression a test goes on, or it stands alone
+  -- this expression continues as a test, or is alone
   test_behind_sound : (e : Sum) (before ts : List Token) → expr e before ts → (x : Tested) (rest : List Token)
       → test_behind inner e ts ≡ Read x rest → tested x before rest
   unfolding test_behind
@@ -353,7 +353,7 @@ module _ (inner : Parser Sum) (sound : Sound expr inner) where
       made_is tested WholeTest (wanted_test o.0 o.1) ts x rest
       (λ t v. wanted_sound o.0 ts m.1 o.1 (related_sound (ByMark m.0) ts m.1 first o.0 o.1 o.2) t rest v) o.3
 
-  -- and over what lies between parentheses
+  -- and given the rule for the content of parentheses
   module _ (mixed : Parser Mixed) (mixed_sound : Sound mixed_phrase mixed) where
     closed_sound : (m : Mixed) (before ts : List Token) → (sign Open ⨟ mixed_phrase m ⨟ sign Close) before ts
         → (x : Tested) (rest : List Token) → closed_over inner mixed m ts ≡ Read x rest → tested x before rest
@@ -363,7 +363,7 @@ module _ (inner : Parser Sum) (sound : Sound expr inner) where
         let a = then_is (sum_from inner (Enclosed e) ts) _ x rest w in
         test_behind_sound a.0 before a.1 (sum_from_sound inner sound (Enclosed e) before ts a.0 a.1 s a.2) x rest a.3
 
-    -- `(` is read
+    -- after `(`
     opened_sound : (before ts : List Token) → before ≡ Sign Open ∷ ts → (x : Tested) (rest : List Token)
         → opened_over inner mixed ts ≡ Read x rest → tested x before rest
     unfolding opened_over
@@ -412,7 +412,7 @@ module _ (inner : Parser Sum) (sound : Sound expr inner) where
     unfolding next_test
     next_test_sound = behind_is (Word (codes "AND")) factor (factor_over inner mixed) factor_sound
 
-    -- the conjunction that begins with this factor
+    -- the rest of the conjunction that begins with this factor
     conj_behind_sound : (f : Factor) (before ts : List Token) → factor f before ts → (c : Conj) (rest : List Token)
         → conj_behind inner mixed f ts ≡ Read c rest → conj c before rest
     unfolding conj_behind
@@ -435,7 +435,7 @@ module _ (inner : Parser Sum) (sound : Sound expr inner) where
     unfolding next_conj
     next_conj_sound = behind_is (Word (codes "OR")) conj (conj_over inner mixed) conj_sound
 
-    -- the condition that begins with this factor
+    -- the rest of the condition that begins with this factor
     condition_behind_sound : (f : Factor) (before ts : List Token) → factor f before ts
         → (c : Condition) (rest : List Token) → condition_behind inner mixed f ts ≡ Read c rest
         → condition c before rest
@@ -457,7 +457,7 @@ module _ (inner : Parser Sum) (sound : Sound expr inner) where
         let a = then_is (factor_over inner mixed ts) _ c rest w in
         condition_behind_sound a.0 ts a.1 (factor_sound ts a.0 a.1 a.2) c rest a.3
 
-    -- behind a test or an expression
+    -- after a test or an expression
     mixed_behind_sound : (x : Tested) (before ts : List Token) → tested x before ts → (m : Mixed) (rest : List Token)
         → mixed_behind inner mixed x ts ≡ Read m rest → mixed_phrase m before rest
     mixed_behind_sound (WholeTest t) before ts s m rest w =

@@ -1,4 +1,4 @@
--- Keys, references and checks: what is read is spelled, and what is spelled is read.
+-- Keys, references and checks: the reading rules are sound and complete.
 use Rattle.std.specs.Prelude.{◌≡◌, refl, ℕ, zero, suc, ◌<◌, ◌≤◌, Bool, true, false, List, ◌∷◌, codes, length, Option}
 use Rattle.std.specs.Prelude.{Some, None}
 use Rattle.std.proofs.Common.{sym, ◌∙◌, ap, subst, arith, inl, inr}
@@ -32,7 +32,7 @@ key_column_sound ts c rest e =
       | inr a ↦ next_is name name_at name_is ts c rest a.1
     ]
 
--- behind a comma and a name stands what stands in the third place
+-- the third token is the one after a comma and a name
 third_token : (t : Token) (n : Name) (ts rest : List Token) → behind_comma name n ts rest
     → begins_third t ts ≡ (eat t rest).0
 third_token t n ts rest s =
@@ -79,7 +79,7 @@ next_key_period_complete ts None rest s stops = rw (s, stops, eat_false (Sign Co
 next_key_period_complete ts (Some p) rest s stops =
     rw (s.1.1.1, name_of s.1.1.0 p s.1.0 s.1.1.2, expected_of s.1.2, expected_of s.2) refl
 
--- no column of the key is read where its period stands, or nothing more
+-- no column of the key is read before its period, or before the end of its list
 no_key_column : (ts : List Token) (p : Option Name) (rest : List Token) → optional without_overlaps p ts rest
     → Stops (Sign Comma) rest → next_key_column ts ≡ Read None ts
 unfolding next_key_column
@@ -89,7 +89,7 @@ no_key_column ts (Some p) rest s stops =
     third_token (Word (codes "WITHOUT")) p ts s.1.0 s.1.1 ∙ rw s.1.2 refl in
     rw (begins_of (Sign Comma) ts s.1.1.0 s.1.1.1, third) refl
 
--- in front of the period of a key, or of nothing, WITHOUT doesn't stand
+-- WITHOUT is not in front of the optional period of a key
 key_period_front : (ts : List Token) (p : Option Name) (rest : List Token) → optional without_overlaps p ts rest
     → Stops (Word (codes "WITHOUT")) rest → Stops (Word (codes "WITHOUT")) ts
 key_period_front ts None rest s stops = rw s stops
@@ -131,7 +131,7 @@ key_complete primary c cs p us rest s =
       expected_of close,
     ) refl
 
--- ---- references
+-- ---- foreign keys
 
 reference_column_sound : Sound (optional (behind_comma name)) next_reference_column
 unfolding next_reference_column
@@ -174,7 +174,7 @@ unfolding reference_period_at
 next_reference_period_complete ts None rest s stops = rw (s, stops, eat_false (Sign Comma) rest stops) refl
 next_reference_period_complete ts (Some p) rest s stops = rw (s.1.1, expected_of s.1.2, name_of s.0 p rest s.2) refl
 
--- no column of the reference is read where its period stands, or nothing more
+-- no column of the foreign key is read before its period, or before the end of its list
 no_reference_column : (ts : List Token) (p : Option Name) (rest : List Token) → optional reference_period p ts rest
     → Stops (Sign Comma) rest → next_reference_column ts ≡ Read None ts
 unfolding next_reference_column
@@ -327,7 +327,7 @@ check_sound ts us c rest word e =
     spelled constraint {x = CheckTree inner.0} close.2
     (us, word, (inner.1, (a.0, a.1, condition_sound _ _ _ inner.2), close.1))
 
--- a condition ends before a parenthesis that closes
+-- a condition ends before `)`
 condition_ends_close : (ts : List Token) → EndsCondition (Sign Close ∷ ts)
 condition_ends_close ts = record {
   expr = record { dot = refl; star = refl; plus = refl; minus = refl };

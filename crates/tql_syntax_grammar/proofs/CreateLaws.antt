@@ -1,4 +1,4 @@
--- CREATE and DROP: what is read is spelled, and what is spelled is read.
+-- CREATE and DROP: the reading rules are sound and complete.
 use Rattle.std.specs.Prelude.{◌≡◌, refl, Bool, true, false, List, ◌∷◌, codes}
 use Rattle.std.proofs.Common.{sym, ◌∙◌, subst, inl, inr}
 use Rattle.tql_spec.specs.Definition.{Name}
@@ -51,7 +51,7 @@ element_sound ts x rest e =
           ]
     ]
 
--- what has to be known of the tokens behind an element
+-- the condition on the tokens after an element
 pub record EndsElement (rest : List Token) : Type 0 where
   pub column : EndsColumn rest
   pub on : Stops (Word (codes "ON")) rest
@@ -70,7 +70,7 @@ element_ends_close ts =
       on = refl;
     }
 
--- how a constraint begins
+-- facts about the first token of a constraint
 record BeginsConstraint (ts : List Token) : Type 0 where
   period : Stops (Word (codes "PERIOD")) ts
   constraint : Stops (Word (codes "CONSTRAINT")) ts
@@ -96,7 +96,7 @@ constraint_front (CheckTree c) ts rest s = let w = s.1 in record {
   begins = rw w refl;
 }
 
--- how a column begins
+-- facts about the first token of a column
 record BeginsColumn (ts : List Token) : Type 0 where
   period : Stops (Word (codes "PERIOD")) ts
   constraint : Stops (Word (codes "CONSTRAINT")) ts

@@ -1,4 +1,4 @@
--- Expressions: what is read is spelled, and what is spelled is read.
+-- Expressions: the reading rules are sound and complete.
 use Rattle.std.specs.Prelude.{◌≡◌, refl, ℕ, zero, suc, ◌<◌, ◌≤◌, Bool, true, false, List, [], ◌∷◌, codes, length}
 use Rattle.std.specs.Prelude.{Option, Some, None}
 use Rattle.std.proofs.Common.{sym, ◌∙◌, ap, subst, arith, inl, inr}
@@ -35,7 +35,7 @@ use Rattle.tql_syntax_grammar.proofs.FirstTokens.{name_begins_primary, primary_b
 
 -- ---- steps
 
--- what was made of what was read
+-- a mapped value was mapped from the value that was read
 pub made_is : {A B : Type 0} (P : B → Phrase) (make : A
     → B) (o : Outcome A) (before : List Token) (y : B) (rest : List Token)
     → ((x : A) → o ≡ Read x rest → P (make x) before rest) → into make o ≡ Read y rest → P y before rest
@@ -43,7 +43,7 @@ made_is P make o before y rest f e =
     let b = into_is make o y rest e in
     subst (λ z. P z before rest) b.2 (f b.0 b.1)
 
--- a rule behind the token where it is in front, else another rule
+-- a rule after the token, if it is in front; else another rule
 pub front_or : {A : Type 0} (P : A → Phrase) (t : Token) (p q : Parser A)
     → ((ts mid : List Token) → ts ≡ t ∷ mid → (y : A) (rest : List Token) → p mid ≡ Read y rest → P y ts rest)
     → Sound P q → Sound P (if_front t p q)
@@ -53,7 +53,7 @@ front_or P t p q first second ts y rest e =
       | inr a ↦ second ts y rest a.1
     ]
 
--- a token in front that stands for one value, or another rule
+-- a token that represents one value, if it is in front; else another rule
 pub found_or : {A : Type 0} (P : A → Phrase) (t : Token) (x : A) (q : Parser A)
     → ((ts rest : List Token) → ts ≡ t ∷ rest → P x ts rest) → Sound P q → Sound P (if_front t (found x) q)
 found_or P t x q spelled sound =
@@ -105,7 +105,7 @@ qualifier_first : (q : Option Name) (n : Name) (ts mid rest : List Token)
 qualifier_first None n ts mid rest s name = subst (Begins is_name) (sym s) (at_name n mid rest name)
 qualifier_first (Some q) n ts mid rest s name = at_name q ts s.0 s.1
 
--- a name stands in front of a column's reference
+-- a name is in front of a column reference
 pub at_named : (r : Named) (ts rest : List Token) → named r ts rest → Begins is_name ts
 at_named r ts rest s = qualifier_first r.qualifier r.name ts s.0 rest s.1 s.2
 
@@ -178,7 +178,7 @@ mutual
       let b = expr_shortens s.1.0 e s.0 s.1.2 in
       omega (arith, ap length s.1.1.2, ap length s.2)
 
--- ---- what is read is spelled
+-- ---- soundness
 
 function_sound : Sound (optional function_name) function_at
 function_sound =
@@ -193,13 +193,13 @@ simple_sound (Number ds ∷ ts) p rest e = spelled_as primary (Number ds ∷ ts)
 simple_sound (Quote t ∷ ts) p rest e = spelled_as primary (Quote t ∷ ts) (TextLiteral t) p ts rest e refl
 simple_sound ts p rest e = made_is primary ColumnNamed (named_at ts) ts p rest (λ r o. named_sound ts r rest o) e
 
--- the factors as the tree has them
+-- the tokens that spell each factor spell the tree of the factors
 factors_spelled : (ss : List Signed) (ts rest : List Token) → each (λ s. sign Star ⨟ signed s) ss ts rest
     → more_factors (factors_of ss) ts rest
 factors_spelled [] ts rest s = s
 factors_spelled (f ∷ ss) ts rest s = (s.0, s.1, factors_spelled ss s.0 rest s.2)
 
--- a term behind the first, with its sign
+-- a term after the first one, with its sign
 abbrev added_by : Bool → Product → Phrase
 added_by true t = sign MinusSign ⨟ term t
 added_by false t = sign PlusSign ⨟ term t
@@ -287,7 +287,7 @@ module _ (inner : Parser Sum) (sound : Sound expr inner) where
   unfolding next_factor
   next_factor_sound = behind_is (Sign Star) signed (signed_over inner) signed_sound
 
-  -- the term that begins with this factor
+  -- the rest of the term that begins with this factor
   term_behind_sound : (f : Signed) (before ts : List Token) (t : Product) (rest : List Token) → signed f before ts
       → term_behind inner f ts ≡ Read t rest → term t before rest
   unfolding term_behind
@@ -319,7 +319,7 @@ module _ (inner : Parser Sum) (sound : Sound expr inner) where
       (λ t r. (mid, is, term_sound mid t rest r)) e)
       (found_sound (optional added_term) None (λ ts. refl)))
 
-  -- the expression that begins with this term
+  -- the rest of the expression that begins with this term
   sum_behind_sound : (t : Product) (before ts : List Token) (e : Sum) (rest : List Token) → term t before ts
       → sum_behind inner t ts ≡ Read e rest → expr e before rest
   unfolding sum_behind
@@ -338,7 +338,7 @@ module _ (inner : Parser Sum) (sound : Sound expr inner) where
       let a = then_is (term_over inner ts) _ e rest r in
       sum_behind_sound a.0 ts a.1 e rest (term_sound ts a.0 a.1 a.2) a.3
 
-  -- the expression that begins with this primary
+  -- the rest of the expression that begins with this primary
   pub sum_from_sound : (p : Primary) (before ts : List Token) (e : Sum) (rest : List Token) → primary p before ts
       → sum_from inner p ts ≡ Read e rest → expr e before rest
   unfolding sum_from
@@ -399,9 +399,9 @@ at_term (Factors f more) ts rest s = at_signed f ts s.0 s.1
 pub at_expr : (e : Sum) (ts rest : List Token) → expr e ts rest → Begins (starts_expr (opens e)) ts
 at_expr (Terms t more) ts rest s = at_term t ts s.0 s.1
 
--- ---- what is spelled is read
+-- ---- completeness
 
--- what is spelled so by at most n tokens, before a rest like this, is what the rule reads
+-- the rule reads whatever at most n tokens spell before a rest that meets `Ends`
 abbrev pub ReadsWithin : {A : Type 0} → ℕ → (List Token → Type 0) → (A → Phrase) → Parser A → Type 0
 ReadsWithin {A} n Ends P p = (ts : List Token) (x : A) (rest : List Token) → length ts ≤ n → P x ts rest → Ends rest
     → p ts ≡ Read x rest
@@ -417,7 +417,7 @@ each_within n P shortens (x ∷ xs) ts rest fuel s =
     let h = shortens ts x s.0 s.1 in
     (s.0, (fuel, s.1), each_within n P shortens xs s.0 rest (omega arith) s.2)
 
--- as many as there are, where each is read that takes at most n tokens
+-- all elements are read, if every element of at most n tokens is
 pub more_within : {A : Type 0} (n : ℕ) (P : A → Phrase) (step : Parser (Option A)) (Mid : List Token → Type 0)
     → ((ts : List Token) (y : A) (rest : List Token) → length ts ≤ n → P y ts rest → Mid rest
     → step ts ≡ Read (Some y) rest)
@@ -429,7 +429,7 @@ more_within n P step Mid one front shortens ts ys rest fuel s ends stops =
     more_of (within n P) step Mid (λ us y vs w known. one us y vs w.0 w.1 known) (λ us y vs w. front us y vs w.1)
     (λ us y vs w. shortens us y vs w.1) ts ys rest (each_within n P shortens ys ts rest fuel s) ends stops
 
--- a term ends here
+-- the condition on the tokens after a term
 pub record EndsTerm (rest : List Token) : Type 0 where
   pub dot : Stops (Sign Dot) rest
   pub star : Stops (Sign Star) rest
@@ -456,7 +456,7 @@ factors_each : (m : MoreFactors) (ts rest : List Token) → more_factors m ts re
 factors_each NoFactor ts rest s = s
 factors_each (TimesFactor f more) ts rest s = (s.0, s.1, factors_each more s.0 rest s.2)
 
--- the list of a tree's terms behind the first
+-- the list of a tree's terms after the first one
 abbrev term_list : MoreTerms → List AddedTerm
 term_list NoTerm = []
 term_list (PlusTerm t more) = record { is_minus = false; term = t } ∷ term_list more
@@ -482,7 +482,7 @@ added_shortens_by false t ts rest s = let h = term_shortens s.0 t rest s.2 in om
 added_shortens : Shortens added_term
 added_shortens ts a rest s = added_shortens_by a.is_minus a.term ts rest s
 
--- what stands behind a term
+-- a term ends before a further term
 added_front : (b : Bool) (t : Product) (ts rest : List Token) → added_by b t ts rest → EndsTerm ts
 added_front true t ts rest s = ends_term (Sign MinusSign) ts s.0 refl refl s.1
 added_front false t ts rest s = ends_term (Sign PlusSign) ts s.0 refl refl s.1
@@ -492,13 +492,13 @@ term_end NoTerm ts rest s ends = subst EndsTerm (sym s) (record { dot = ends.dot
 term_end (PlusTerm t more) ts rest s ends = ends_term (Sign PlusSign) ts s.1.0 refl refl s.1.1
 term_end (MinusTerm t more) ts rest s ends = ends_term (Sign MinusSign) ts s.1.0 refl refl s.1.1
 
--- what stands behind a factor
+-- no dot is in front of the further factors
 pub factor_end : (m : MoreFactors) (ts rest : List Token) → more_factors m ts rest → Stops (Sign Dot) rest
     → Stops (Sign Dot) ts
 factor_end NoFactor ts rest s stops = subst (Stops (Sign Dot)) (sym s) stops
 factor_end (TimesFactor f more) ts rest s stops = stops_dot (Sign Star) ts s.1.0 refl s.1.1
 
--- where a name is in front, a primary without a word before it is a column
+-- where a name is in front, `simple_at` reads a column
 name_at_front : (ts : List Token) → Begins is_name ts → simple_at ts ≡ into ColumnNamed (named_at ts)
 unfolding simple_at
 name_at_front ts b = rw b.is (simple_of b.first b.others b.passes)
@@ -517,7 +517,7 @@ no_function ts b =
       eat_none is_name (Word (codes "MAX")) ts refl b,
     ) refl
 
--- at most n tokens, of which one is in front of the others
+-- at most n tokens follow the first one
 behind_token : (n : ℕ) (u : Token) (ts mid : List Token) → length ts ≤ suc n → ts ≡ u ∷ mid → length mid ≤ n
 behind_token n u ts mid fuel is = omega (arith, ap length is)
 
@@ -547,7 +547,7 @@ module _ (n : ℕ) (inner : Parser Sum) (reads : ReadsWithin n EndsExpr expr inn
         named_complete ts r rest s stops,
       ) refl
 
-  -- behind COUNT and `(` an expression is read
+  -- after COUNT: an expression in parentheses
   count_of : (a b : List Token) (e : Sum) (mid rest : List Token) → length b ≤ n → a ≡ Sign Open ∷ b → expr e b mid
       → mid ≡ Sign Close ∷ rest → count_over inner a ≡ Read (Over Count e) rest
   unfolding count_over
@@ -673,7 +673,7 @@ module _ (n : ℕ) (inner : Parser Sum) (reads : ReadsWithin n EndsExpr expr inn
       let h = term_shortens ts t s.0 s.1 in
       rw (term_of ts t s.0 fuel s.1 (term_end m s.0 rest s.2 ends)) (sum_behind_of t s.0 m rest (omega arith) s.2 ends)
 
-  -- the expression that begins with this primary, where that is read
+  -- the rest of the expression that begins with this primary
   pub sum_from_of : (p : Primary) (fs : MoreFactors) (m : MoreTerms) (ts mid rest : List Token) → length ts ≤ suc n
       → more_factors fs ts mid → more_terms m mid rest → EndsExpr rest
       → sum_from inner p ts ≡ Read (Terms (Factors (Unsigned p) fs) m) rest

@@ -1,4 +1,4 @@
--- The first token of a phrase: what it can't be.
+-- The first token of a phrase, and which tokens it cannot be.
 use Rattle.std.specs.Prelude.{◌≡◌, refl, Bool, true, false, not, ◌||◌, List, [], ◌∷◌, codes}
 use Rattle.std.specs.List.{list_any}
 use Rattle.std.proofs.Common.{inl, inr}
@@ -28,19 +28,19 @@ differs test t u fails holds = not_true (is_token t u) (λ same. let e = is_toke
 pub stops_at : (test : Token → Bool) (t : Token) (ts : List Token) → test t ≡ false → Begins test ts → Stops t ts
 stops_at test t ts fails b = rw (b.is, differs test t b.first fails b.passes) refl
 
--- nothing is eaten
+-- a token that is not in front is not consumed
 pub eat_not : (t : Token) (ts : List Token) → Stops t ts → eat t ts ≡ (false, ts)
 eat_not t ts stops = pair_is (eat t ts) ts stops (eat_false t ts stops)
   where
     pair_is : (p : Bool × List Token) (us : List Token) → p.0 ≡ false → p.1 ≡ us → p ≡ (false, us)
     pair_is p us a b = rw (← a, ← b) refl
 
--- nothing is eaten by a token that fails the test
+-- a token that fails the test is not consumed
 pub eat_none : (test : Token → Bool) (t : Token) (ts : List Token) → test t ≡ false → Begins test ts
     → eat t ts ≡ (false, ts)
 eat_none test t ts fails b = eat_not t ts (stops_at test t ts fails b)
 
--- the first token, by itself
+-- a token that passes the test is in front
 pub at_token : (test : Token → Bool) (u : Token) (ts rest : List Token) → test u ≡ true → ts ≡ u ∷ rest → Begins test ts
 at_token test u ts rest passes is = record { first = u; others = rest; is = is; passes = passes }
 
@@ -59,14 +59,14 @@ at_name n ts rest s =
 abbrev first_words : List Name
 first_words = codes "DATE" ∷ codes "TIMESTAMP" ∷ codes "COUNT" ∷ codes "SUM" ∷ codes "MIN" ∷ codes "MAX" ∷ []
 
--- whether a token can begin a primary, where the flag says so also `(`
+-- whether a token can begin a primary; the flag says whether `(` can
 abbrev pub starts_primary : Bool → Token → Bool
 starts_primary opens (Word w) = not (is_reserved w) || list_any (same_text w) first_words
 starts_primary opens (Sign Open) = opens
 starts_primary opens (Sign _) = false
 starts_primary opens _ = true
 
--- whether a token can begin an expression, where the flag says so also `(`
+-- whether a token can begin an expression; the flag says whether `(` can
 abbrev pub starts_expr : Bool → Token → Bool
 starts_expr opens (Sign PlusSign) = true
 starts_expr opens (Sign MinusSign) = true
@@ -99,7 +99,7 @@ primary_begins_expr opens ts b = record {
   passes = primary_starts opens b.first b.passes;
 }
 
--- whether a token ends an expression that stands before it
+-- whether a token ends an expression before it
 abbrev pub ends_expr : Token → Bool
 ends_expr (Sign Dot) = false
 ends_expr (Sign Star) = false

@@ -1,4 +1,4 @@
--- References, joins and chains: what is read is spelled, and what is spelled is read.
+-- Table references, joins and chains: the reading rules are sound and complete.
 use Rattle.std.specs.Prelude.{◌≡◌, refl, Bool, false, ◌||◌, List, ◌∷◌, codes, Option, Some, None}
 use Rattle.std.proofs.Common.{sym, ◌∙◌, subst, inl, inr}
 use Rattle.tql_spec.specs.Definition.{Name}
@@ -99,7 +99,7 @@ span_complete ts (BetweenTree a b) rest s stops =
       moment_complete s.0 b rest s.2,
     ) refl
 
--- ---- other names
+-- ---- aliases
 
 pub alias_sound : Sound (optional alias) alias_at
 unfolding alias_at
@@ -118,7 +118,7 @@ alias_sound ts n rest e =
           ]
     ]
 
--- what has to be known of the tokens behind another name, or behind none
+-- the condition on the tokens after an optional alias
 pub record EndsAlias (rest : List Token) : Type 0 where
   pub word : Stops (Word (codes "AS")) rest
   pub name : begins_name rest ≡ false
@@ -135,7 +135,7 @@ alias_complete ts (Some n) rest s ends =
       | inr word ↦ rw (word, name_of s.0 n rest s.2) refl
     ]
 
--- FOR is not in front of another name, nor of none where it isn't in front of the rest
+-- FOR is not in front of an optional alias, if it is not in front of the rest
 alias_no_for : (ts : List Token) (n : Option Name) (rest : List Token) → optional alias n ts rest
     → Stops (Word (codes "FOR")) rest → Stops (Word (codes "FOR")) ts
 alias_no_for ts None rest s stops = rw s stops
@@ -145,7 +145,7 @@ alias_no_for ts (Some n) rest s stops =
       | inr word ↦ rw word refl
     ]
 
--- ---- references
+-- ---- table references
 
 pub ref_sound : Sound ref ref_at
 unfolding ref_at
@@ -160,7 +160,7 @@ ref_sound ts r rest e =
     subst (λ (x : RefTree). ref x ts rest) n.2
     (s.1, (t.1, name_is _ _ _ t.2, span_sound _ _ _ s.2), alias_sound _ _ _ n.1)
 
--- what has to be known of the tokens behind a reference
+-- the condition on the tokens after a table reference
 pub record EndsRef (rest : List Token) : Type 0 where
   pub alias : EndsAlias rest
   pub span : Stops (Word (codes "FOR")) rest
@@ -176,7 +176,7 @@ ref_complete ts r rest s ends =
 
 -- ---- joins
 
--- a join with its condition, behind its words
+-- a join with its condition, after its words
 record TookJoin (make : RefTree → Condition
     → JoinTree) (head : Phrase) (j : JoinTree) (ts rest : List Token) : Type 0 where
   reference : RefTree
@@ -199,7 +199,7 @@ joined_sound make head ts us j rest h e =
       spelled = (on.0, (r.1, (us, h, ref_sound _ _ _ r.2), on.1), condition_sound _ _ _ c.1);
     }
 
--- a reference ends before ON
+-- a table reference ends before ON
 ref_ends_on : (ts rest : List Token) → ts ≡ Word (codes "ON") ∷ rest → EndsRef ts
 ref_ends_on ts rest e = record { alias = record { word = rw e refl; name = rw e refl }; span = rw e refl }
 
@@ -270,7 +270,7 @@ join_sound ts j rest e =
           ]
     ]
 
--- what has to be known of the tokens behind a join
+-- the condition on the tokens after a join
 pub record EndsJoin (rest : List Token) : Type 0 where
   pub condition : EndsCondition rest
   pub ref : EndsRef rest
@@ -304,14 +304,14 @@ join_complete ts (CrossJoin r) rest s ends = rw (s.1.1, expected_of s.1.2, ref_c
 
 -- ---- chains
 
--- whether what is in front goes on with a join: with its condition, with its reference
+-- whether the token in front may continue a join: its condition or its table reference
 abbrev goes_on : List Token → Bool
 goes_on ts =
     (eat (Sign Dot) ts).0 || ((eat (Sign Star) ts).0 || ((eat (Sign PlusSign) ts).0 || ((eat (Sign MinusSign) ts).0
     || ((eat (Word (codes "AND")) ts).0 || ((eat (Word (codes "OR")) ts).0 || ((eat (Word (codes "AS")) ts).0
     || (begins_name ts || (eat (Word (codes "FOR")) ts).0)))))))
 
--- a condition ends where it doesn't go on
+-- a condition ends where no such token is in front
 condition_ends : (ts : List Token) → goes_on ts ≡ false → EndsCondition ts
 condition_ends ts e =
     let dot = neither (eat (Sign Dot) ts).0 _ e in
@@ -322,7 +322,7 @@ condition_ends ts e =
     let or = neither (eat (Word (codes "OR")) ts).0 _ also.1 in
     record { expr = record { dot = dot.0; star = star.0; plus = plus.0; minus = minus.0 }; also = also.0; or = or.0 }
 
--- a reference ends where it doesn't go on
+-- a table reference ends where no such token is in front
 ref_ends : (ts : List Token) → goes_on ts ≡ false → EndsRef ts
 ref_ends ts e =
     let dot = neither (eat (Sign Dot) ts).0 _ e in
@@ -338,7 +338,7 @@ ref_ends ts e =
 join_ends : (ts : List Token) → goes_on ts ≡ false → EndsJoin ts
 join_ends ts e = record { condition = condition_ends ts e; ref = ref_ends ts e }
 
--- a join ends before another
+-- a join ends before another join
 join_front : (ts : List Token) (j : JoinTree) (rest : List Token) → join j ts rest → EndsJoin ts
 join_front ts (InnerJoin r c) rest s =
     elim s.1.1.1.1 [
@@ -348,7 +348,7 @@ join_front ts (InnerJoin r c) rest s =
 join_front ts (LeftJoin r c) rest s = join_ends ts (rw s.1.1.1.1.1 refl)
 join_front ts (CrossJoin r) rest s = join_ends ts (rw s.1.1 refl)
 
--- what has to be known of the tokens behind a chain
+-- the condition on the tokens after a chain
 pub record EndsChain (rest : List Token) : Type 0 where
   pub join : EndsJoin rest
   pub inner : Stops (Word (codes "INNER")) rest
@@ -362,7 +362,7 @@ begins_join ts =
     (eat (Word (codes "INNER")) ts).0 || ((eat (Word (codes "JOIN")) ts).0
     || ((eat (Word (codes "LEFT")) ts).0 || (eat (Word (codes "CROSS")) ts).0))
 
--- a chain ends where it goes on with no join
+-- a chain ends where no token continues its last join and no further join begins
 pub chain_ends : (ts : List Token) → goes_on ts ≡ false → begins_join ts ≡ false → EndsChain ts
 chain_ends ts e f =
     let inner = neither (eat (Word (codes "INNER")) ts).0 _ f in

@@ -1,4 +1,4 @@
--- How an expression begins: with none of these tokens.
+-- Tokens that an expression cannot begin with.
 use Rattle.std.specs.Prelude.{refl, Bool, List, codes}
 use Rattle.tql_spec.specs.Token.{Token, Word, Sign, Star}
 use Rattle.tql_spec.specs.Syntax.{Sum}
@@ -7,7 +7,7 @@ use Rattle.tql_syntax_grammar.proofs.Steps.{Stops}
 use Rattle.tql_syntax_grammar.proofs.FirstTokens.{starts_expr, stops_at}
 use Rattle.tql_syntax_grammar.proofs.ExpressionLaws.{opens, at_expr}
 
--- how an expression begins
+-- the tokens that are not at the front of an expression
 pub record BeginsExpr (ts : List Token) : Type 0 where
   pub star : Stops (Sign Star) ts
   pub null : Stops (Word (codes "NULL")) ts

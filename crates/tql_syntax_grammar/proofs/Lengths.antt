@@ -1,4 +1,4 @@
--- Phrases take tokens: none behind a phrase stands outside what it begins with.
+-- How many tokens phrases take: the tokens after a phrase are no more, or are fewer, than those before it.
 use Rattle.std.specs.Prelude.{ℕ, ◌<◌, ◌≤◌, Bool, true, false, List, [], ◌∷◌, length, Option, Some, None}
 use Rattle.std.proofs.Common.{ap, arith, inl, inr}
 use Rattle.tql_spec.specs.Definition.{Name}
@@ -20,11 +20,11 @@ use Rattle.tql_syntax_grammar.proofs.Steps.{Shortens, behind_comma, name_shorten
 
 -- ---- parts of the notation
 
--- no more tokens are behind the phrase than before it
+-- no more tokens are after the phrase than before it
 pub record Keeps (a : Phrase) : Type 0 where
   pub less : (before after : List Token) → a before after → length after ≤ length before
 
--- fewer tokens are behind the phrase than before it
+-- fewer tokens are after the phrase than before it
 pub record Takes (a : Phrase) : Type 0 where
   pub less : (before after : List Token) → a before after → length after < length before
 
@@ -234,7 +234,7 @@ takes_tuple t = takes_parens (kept (takes_commas cell takes_cell t.first t.more)
 pub takes_assignment : (a : SetTree) → Takes (assignment a)
 takes_assignment a = takes_then (takes_then (takes_name a.column) (keeps_token _)) (kept (takes_cell a.value))
 
--- ---- as the rules of lists want it
+-- ---- in the form that the rules of lists need
 
 pub shortens : {A : Type 0} (P : A → Phrase) → ((x : A) → Takes (P x)) → Shortens P
 shortens P h ts x rest s = (h x).less ts rest s

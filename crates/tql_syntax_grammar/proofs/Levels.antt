@@ -1,4 +1,4 @@
--- A rule of some level is the rule over the level below.
+-- A rule at a level above 0 is the rule over the level below.
 use Rattle.std.proofs.Common.{◌≡◌, refl, ap, ℕ, zero, suc, ◌-◌, List, arith}
 use Rattle.std.specs.Prelude.{◌≢◌}
 use Rattle.tql_spec.specs.Token.{Token}

@@ -1,4 +1,4 @@
--- SELECT and its clauses: what is read is spelled, and what is spelled is read.
+-- SELECT and its clauses: the reading rules are sound and complete.
 use Rattle.std.specs.Prelude.{◌≡◌, refl, Bool, true, false, List, [], ◌∷◌, codes, Option, Some, None}
 use Rattle.std.proofs.Common.{sym, ◌∙◌, ap, subst, inl, inr}
 use Rattle.tql_spec.specs.Definition.{Name}
@@ -37,12 +37,12 @@ item_sound ts i rest e =
     let n = into_is (λ (a : Option Name). let made : Item = record { value = v.0; alias = a } in made) _ i rest v.3 in
     subst (λ (x : Item). item x ts rest) n.2 (v.1, expr_sound _ _ _ v.2, alias_sound _ _ _ n.1)
 
--- what has to be known of the tokens behind an item
+-- the condition on the tokens after an item
 record EndsItem (rest : List Token) : Type 0 where
   expr : EndsExpr rest
   alias : EndsAlias rest
 
--- an expression ends before another name
+-- an expression ends before an optional alias
 alias_ends_expr : (ts : List Token) (n : Option Name) (rest : List Token) → optional alias n ts rest → EndsExpr rest
     → EndsExpr ts
 alias_ends_expr ts None rest s ends = subst EndsExpr (sym s) ends
@@ -106,7 +106,7 @@ items_complete ts (TheseItems i is) rest s ends =
     rest s.2 ends in
     rw (front.star, eat_false (Sign Star) ts front.star, item_complete ts i s.0 s.1 behind_first, others) refl
 
--- how items begin
+-- words that are not at the front of items
 record BeginsItems (ts : List Token) : Type 0 where
   distinct : Stops (Word (codes "DISTINCT")) ts
   all : Stops (Word (codes "ALL")) ts
@@ -188,8 +188,7 @@ group_by_complete ts (c ∷ cs) rest s ends stops =
 
 -- ---- SELECT
 
--- what has to be known of the tokens behind the chains of FROM, behind [WHERE ..], behind [GROUP BY ..] and behind a
--- select
+-- the conditions on the tokens after the chains of FROM, after [WHERE ..], after [GROUP BY ..] and after a select
 pub record EndsFrom (rest : List Token) : Type 0 where
   pub chain : EndsList EndsChain rest
 
@@ -211,7 +210,7 @@ from_ends ts ends = ends.chain.item.join.condition
 list_ends : (ts : List Token) → EndsFrom ts → EndsList (Stops (Sign Dot)) ts
 list_ends ts ends = record { item = (from_ends ts ends).expr.dot; comma = ends.chain.comma }
 
--- a chain ends before a comma, and before the words of the clauses behind it
+-- a chain ends before a comma, and before the words of the clauses after it
 chain_ends_comma : (ts : List Token) → EndsChain (Sign Comma ∷ ts)
 chain_ends_comma ts = chain_ends (Sign Comma ∷ ts) refl refl
 
@@ -288,7 +287,7 @@ select_sound ts us s rest word e =
     (from.0, (is.1, (d.1, (us, word, distinct_sound _ _ _ d.2), items_sound _ _ _ is.2), from.1), chains) in
     select_end_sound d.0 is.0 c.0 cs.0 ts cs.1 s rest head cs.3
 
--- what is read stands behind SELECT
+-- the tokens after SELECT are read
 pub select_complete : (s : SelectTree) (ts rest : List Token) (p : select s ts rest) → EndsSelect rest
     → select_at p.1.1.1.1.1.1.0 ≡ Read s rest
 unfolding select_at
@@ -331,7 +330,7 @@ key_name_complete ts (ByHeading n) rest s =
       | inr q ↦ rw (q, name_of (QuotedName n ∷ rest) n rest (inr refl)) refl
     ]
 
--- what has to be known of the tokens behind a key of ORDER BY
+-- the condition on the tokens after a key of ORDER BY
 record EndsKey (rest : List Token) : Type 0 where
   down : Stops (Word (codes "DESC")) rest
   up : Stops (Word (codes "ASC")) rest
@@ -382,7 +381,7 @@ order_by_sound ts ks rest e =
       | inr a ↦ spelled order_by (rw a.0 at a.1) refl
     ]
 
--- what has to be known of the tokens behind [ORDER BY ..]
+-- the condition on the tokens after [ORDER BY ..]
 record EndsOrder (rest : List Token) : Type 0 where
   key : EndsList EndsKey rest
   word : Stops (Word (codes "ORDER")) rest
@@ -454,14 +453,14 @@ order_ends = record {
   word = refl;
 }
 
--- what is read stands behind SELECT
+-- the tokens after SELECT are read
 pub query_complete : (q : SelectTree) (keys : List OrderTree) (ts : List Token)
     (p : statement (QueryTree q keys) ts []) → query_at p.1.1.1.1.1.1.1.0 ≡ Read (QueryTree q keys) []
 unfolding query_at
 query_complete q keys ts p =
     rw (select_complete q ts p.0 p.1 (order_front p.0 keys p.2), order_by_complete p.0 keys [] p.2 order_ends) refl
 
--- what is read stands behind READ
+-- the tokens after READ are read
 pub read_complete : (n : Name) (q : SelectTree) (keys : List OrderTree) (ts : List Token)
     (p : statement (ReadTree n q keys) ts []) → read_at p.1.1.0 ≡ Read (ReadTree n q keys) []
 unfolding read_at

@@ -1,4 +1,4 @@
--- Statements: what is read is spelled, and what is spelled is read. So a token list spells one statement at most.
+-- Statements: the reading rules are sound and complete. So a token list spells at most one statement.
 use Rattle.std.specs.Prelude.{◌≡◌, refl, List, [], ◌∷◌, codes, Some}
 use Rattle.std.proofs.Common.{ap, subst, inl, inr}
 use Rattle.tql_spec.specs.Token.{Token, Word}
@@ -145,7 +145,7 @@ reads_statement ts s e = statement_sound ts s [] (whole_is (statement_at ts) s e
 pub statement_is_read : (ts : List Token) (s : Statement) → IsStatement s ts → read_statement ts ≡ Some s
 statement_is_read ts s p = ap whole (statement_complete s ts p)
 
--- a token list spells one statement at most
+-- a token list spells at most one statement
 pub spells_once : SpellsOnce
 spells_once ts s t p q =
     let a = statement_is_read ts s p in

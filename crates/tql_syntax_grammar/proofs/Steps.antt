@@ -1,4 +1,4 @@
--- Single tokens, choices and lists: what is read is spelled, and what is spelled is read.
+-- Single tokens, choices and lists: the reading rules are sound and complete.
 use Rattle.std.specs.Prelude.{◌≡◌, ◌⊎◌, refl, ℕ, zero, suc, ◌<◌, ◌≤◌, Bool, true, false, cond, ◌||◌, List, [], ◌∷◌}
 use Rattle.std.specs.Prelude.{◌++◌, length, Option, Some, None}
 use Rattle.std.proofs.Common.{sym, ◌∙◌, ap, subst, append_assoc, append-nil, arith, inl, inr}
@@ -47,14 +47,14 @@ pub choose : {A : Type 0} (b : Bool) (p q : Outcome A) (y : A) (rest : List Toke
 choose true p q y rest e = inl (refl, e)
 choose false p q y rest e = inr (refl, e)
 
--- a phrase of one value and rest is one of another value and rest that are the same
+-- a phrase also spells a value and a rest that are equal to its own
 pub spelled_as : {A : Type 0} (P : A → Phrase) (ts : List Token) (x y : A) (mid rest : List Token)
     → Read x mid ≡ Read y rest → P x ts mid → P y ts rest
 spelled_as {A} P ts x y mid rest e s =
     let same = read_is x y mid rest e in
     subst (λ (z : A). P z ts rest) same.value (subst (λ (us : List Token). P x ts us) same.rest s)
 
--- the same with what is read named by the equation
+-- the same, with the value and the rest inferred from the equation
 pub spelled : {A : Type 0} (P : A → Phrase) {ts : List Token} {x y : A} {mid rest : List Token}
     → Read x mid ≡ Read y rest → P x ts mid → P y ts rest
 spelled P {ts} {x} {y} {mid} {rest} e s = spelled_as P ts x y mid rest e s
@@ -63,22 +63,22 @@ pub and_then : {A B : Type 0} {o : Outcome A} {f : A → Parser B} {y : B} {rest
     → (x : A) × (mid : List Token) × (o ≡ Read x mid) × (f x mid ≡ Read y rest)
 and_then {A} {B} {o} {f} {y} {rest} e = then_is o f y rest e
 
--- ---- what a rule keeps to
+-- ---- properties of a rule
 
--- what the rule reads is spelled so
+-- whatever the rule reads is spelled by the phrase
 abbrev pub Sound : {A : Type 0} → (A → Phrase) → Parser A → Type 0
 Sound {A} P p = (ts : List Token) (x : A) (rest : List Token) → p ts ≡ Read x rest → P x ts rest
 
--- what is spelled so is what the rule reads
+-- whatever the phrase spells is read by the rule
 abbrev pub Complete : {A : Type 0} → (A → Phrase) → Parser A → Type 0
 Complete {A} P p = (ts : List Token) (x : A) (rest : List Token) → P x ts rest → p ts ≡ Read x rest
 
--- what is spelled so, before a rest like this, is what the rule reads
+-- whatever the phrase spells, before a rest that meets `Ends`, is read by the rule
 abbrev pub CompleteBefore : {A : Type 0} → (List Token → Type 0) → (A → Phrase) → Parser A → Type 0
 CompleteBefore {A} Ends P p = (ts : List Token) (x : A) (rest : List Token) → P x ts rest → Ends rest
     → p ts ≡ Read x rest
 
--- what is spelled so takes a token
+-- the phrase takes at least one token
 abbrev pub Shortens : {A : Type 0} → (A → Phrase) → Type 0
 Shortens {A} P = (ts : List Token) (x : A) (rest : List Token) → P x ts rest → length rest < length ts
 
@@ -148,7 +148,7 @@ eat_it t ts = rw (is_token_self t) refl
 pub eat_of : (t : Token) (ts rest : List Token) → ts ≡ t ∷ rest → eat t ts ≡ (true, rest)
 eat_of t ts rest e = rw e (eat_it t rest)
 
--- whether a token is in front, by the one test and by the other
+-- the two tests whether a token is in front agree
 pub begins_eat : (t : Token) (ts : List Token) → begins t ts ≡ (eat t ts).0
 begins_eat t [] = refl
 begins_eat t (u ∷ us) = sym (eaten_is (is_token t u) u us)
@@ -168,14 +168,14 @@ pub expect_of : (t : Token) (ts rest : List Token) → ts ≡ t ∷ rest → exp
 unfolding expect
 expect_of t ts rest e = rw (e, eat_it t rest) refl
 
--- the token, and then what f reads
+-- the token, followed by what `f` reads
 pub expect_then : {B : Type 0} (t : Token) (ts : List Token) (f : Unit {0} → Parser B) (y : B) (rest : List Token)
     → expect t ts >>= f ≡ Read y rest → (mid : List Token) × (ts ≡ t ∷ mid) × (f tt mid ≡ Read y rest)
 expect_then t ts f y rest e =
     let b = then_is (expect t ts) f y rest e in
     (b.1, expect_is t ts b.1 b.0 b.2, b.3)
 
--- the same with the tokens named by the equation
+-- the same, with the tokens inferred from the equation
 pub expected : {B : Type 0} {t : Token} {ts : List Token} (f : Unit {0} → Parser B) {y : B} {rest : List Token}
     → expect t ts >>= f ≡ Read y rest → (mid : List Token) × (ts ≡ t ∷ mid) × (f tt mid ≡ Read y rest)
 expected {B} {t} {ts} f {y} {rest} e = expect_then t ts f y rest e
@@ -264,7 +264,7 @@ if_front_is t p q ts y rest e =
       | inr b ↦ inr (b.0, ap q (sym (eat_false t ts b.0)) ∙ b.1)
     ]
 
--- the same of a choice whose two rules are not named: where the token is not in front, none is eaten
+-- the same for a choice of two outcomes; where the token is not in front, none is consumed
 pub front_is : {A : Type 0} (t : Token) (ts : List Token) {p q : Outcome A} {y : A} {rest : List Token}
     → cond (eat t ts).0 p q ≡ Read y rest
     → ((ts ≡ t ∷ (eat t ts).1) × (p ≡ Read y rest)) ⊎ (((eat t ts).1 ≡ ts) × (q ≡ Read y rest))
@@ -281,7 +281,7 @@ if_front_of t p q ts mid e = rw (e, eat_it t mid) refl
 pub if_front_not : {A : Type 0} (t : Token) (p q : Parser A) (ts : List Token) → Stops t ts → if_front t p q ts ≡ q ts
 if_front_not t p q ts e = rw (e, eat_false t ts e) refl
 
--- what stands behind a token, or nothing
+-- a token and what follows it, or nothing
 pub behind_is : {A : Type 0} (t : Token) (P : A → Phrase) (p : Parser A) → Sound P p
     → Sound (optional (λ (x : A). token t ⨟ P x)) (behind t p)
 behind_is {A} t P p sound ts o rest e =
@@ -292,7 +292,7 @@ behind_is {A} t P p sound ts o rest e =
       | inr a ↦ spelled_as (optional (λ (x : A). token t ⨟ P x)) ts None o ts rest a.1 refl
     ]
 
--- the same, with the two cases told apart
+-- the same, as two separate cases
 pub option_is : {A : Type 0} (t : Token) (p : Parser A) (ts : List Token) {o : Option A} {rest : List Token}
     → behind t p ts ≡ Read o rest
     → ((x : A) × (mid : List Token) × (ts ≡ t ∷ mid) × (p mid ≡ Read x rest) × (o ≡ Some x)) ⊎
@@ -310,7 +310,7 @@ behind_some t p ts mid x rest e r = rw (if_front_of t (λ us. into Some (p us)) 
 pub behind_none : {A : Type 0} (t : Token) (p : Parser A) (ts : List Token) → Stops t ts → behind t p ts ≡ Read None ts
 behind_none t p ts stops = if_front_not t (λ us. into Some (p us)) (found None) ts stops
 
--- before a rest that neither goes on with the part nor begins with the token
+-- the optional part is read, before a rest that neither continues it nor begins with the token
 pub behind_of : {A : Type 0} (t : Token) (P : A → Phrase) (p : Parser A) (Ends : List Token → Type 0)
     → CompleteBefore Ends P p → (ts : List Token) (o : Option A) (rest : List Token)
     → optional (λ (x : A). token t ⨟ P x) o ts rest → Ends rest → Stops t rest → behind t p ts ≡ Read o rest
@@ -320,7 +320,7 @@ behind_of t P p Ends complete ts (Some x) rest s ends stops =
 
 -- ---- lists
 
--- all elements are those that were found and then those that the tokens spell
+-- all elements are the ones found before, followed by those that the tokens spell
 pub record TookMore {A : Type 0} (Q : A
     → Phrase) (found : List A) (ts : List Token) (all : List A) (rest : List Token) : Type 0 where
   pub others : List A
@@ -353,13 +353,13 @@ module _ {A : Type 0} (Q : A → Phrase) (step : Parser (Option A)) where
             }
       ] b.2 b.3
 
-  -- with none found before
+  -- the same, with no element found before
   pub more_is : Sound (optional Q) step → Sound (each Q) (more step [])
   more_is sound ts all rest e =
       let took = repeated_is sound (length ts) [] ts all rest e in
       subst (λ (l : List A). each Q l ts rest) (sym took.is) took.spelled
 
-  -- Mid is what has to be known of the tokens behind an element
+  -- `Mid` is the condition on the tokens after an element
   pub repeated_of : (Mid : List Token → Type 0)
       → ((ts : List Token) (y : A) (rest : List Token) → Q y ts rest → Mid rest → step ts ≡ Read (Some y) rest)
       → ((ts : List Token) (y : A) (rest : List Token) → Q y ts rest → Mid ts)
@@ -392,7 +392,7 @@ module _ {A : Type 0} (Q : A → Phrase) (step : Parser (Option A)) where
   more_of Mid one front shortens ts ys rest s ends stops =
       repeated_of Mid one front shortens (length ts) [] ys ts rest (omega arith) s ends stops
 
--- elements take no fewer than no token
+-- no more tokens are after the elements than before them
 pub each_shortens : {A : Type 0} (Q : A → Phrase) → Shortens Q → (xs : List A) (ts rest : List Token)
     → each Q xs ts rest → length rest ≤ length ts
 each_shortens Q h [] ts rest s = omega (arith, ap length s)
@@ -401,7 +401,7 @@ each_shortens Q h (x ∷ xs) ts rest s =
     let others = each_shortens Q h xs s.0 rest s.2 in
     omega arith
 
--- what is known of the rest, and in front of each element, is known in front of all of them
+-- a condition that holds for the rest, and in front of each element, holds in front of all elements
 pub each_front : {A : Type 0} (Q : A → Phrase) (Mid : List Token → Type 0)
     → ((ts : List Token) (y : A) (rest : List Token) → Q y ts rest → Mid ts) → (ys : List A) (ts rest : List Token)
     → each Q ys ts rest → Mid rest → Mid ts
@@ -414,14 +414,14 @@ each_front Q Mid front (y ∷ ys) ts rest s ends = front ts y s.0 s.1
 abbrev pub behind_comma : {A : Type 0} → (A → Phrase) → A → Phrase
 behind_comma P x = sign Comma ⨟ P x
 
--- all elements, as the first and those behind it
+-- all elements, as the first one and the others
 pub record TookList {A : Type 0} (P : A → Phrase) (ts : List Token) (all : List A) (rest : List Token) : Type 0 where
   pub first : A
   pub others : List A
   pub is : all ≡ first ∷ others
   pub spelled : commas P first others ts rest
 
--- what has to be known of the tokens behind a list: no comma, and what its elements need
+-- the condition on the tokens after a list: no comma, and the condition of its elements
 pub record EndsList (Ends : List Token → Type 0) (rest : List Token) : Type 0 where
   pub item : Ends rest
   pub comma : Stops (Sign Comma) rest
@@ -430,7 +430,7 @@ module _ {A : Type 0} (P : A → Phrase) (item : Parser A) where
   pub next_is : Sound P item → Sound (optional (behind_comma P)) (next item)
   next_is sound = behind_is (Sign Comma) P item sound
 
-  -- the elements behind the first
+  -- the elements after the first one
   pub more_next_is : Sound P item → Sound (each (behind_comma P)) (more (next item) [])
   more_next_is sound = more_is (behind_comma P) (next item) (next_is sound)
 
@@ -451,9 +451,9 @@ module _ {A : Type 0} (P : A → Phrase) (item : Parser A) where
       let others = each_shortens (behind_comma P) (comma_shortens shortens) xs s.0 rest s.2 in
       omega arith
 
-  -- At tells what an element needs of the tokens behind it; a comma has it
+  -- `At` is the condition on the tokens after an element; a comma meets it
   module _ (At : List Token → Type 0) (at_comma : (us : List Token) → At (Sign Comma ∷ us)) where
-    -- what stands behind the first element can stand behind an element
+    -- the tokens after the first element meet `At` too
     pub commas_front : (ys : List A) (ts rest : List Token) → each (behind_comma P) ys ts rest → At rest → At ts
     commas_front ys ts rest s ends =
         each_front (behind_comma P) At (λ us y vs c. subst At (sym c.1) (at_comma c.0)) ys ts rest s ends
@@ -482,7 +482,7 @@ pub neither : (a b : Bool) → a || b ≡ false → (a ≡ false) × (b ≡ fals
 neither true b e = absurd cc
 neither false b e = (refl, e)
 
--- nothing has to be known of the rest
+-- no condition on the rest
 abbrev pub Always : List Token → Type 0
 Always ts = Unit {0}
 

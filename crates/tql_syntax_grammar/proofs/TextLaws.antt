@@ -1,4 +1,4 @@
--- A text has one token list, so it spells one statement at most.
+-- A text has one token list, so it spells at most one statement.
 use Rattle.std.proofs.Common.{◌≡◌, sym, subst, ℕ, ◌<◌, ◌≤◌, List, arith}
 use Rattle.tql_spec.specs.Token.{Token, AreTokens, depth}
 use Rattle.tql_spec.specs.Grammar.{IsStatement}

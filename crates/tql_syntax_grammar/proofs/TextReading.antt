@@ -1,4 +1,4 @@
--- What is read of a text are its tokens, and what is read of a piece of a script is its sense.
+-- The reading functions return the tokens of a text, and the sense of a piece of a script.
 use Rattle.std.proofs.Common.{◌≡◌, ◌<◌, ◌≤◌, refl, sym, ap, subst, ◌∙◌, ℕ, zero, suc, Bool, true, false, List, []}
 use Rattle.std.proofs.Common.{◌∷◌, length, drop, arith, length-drop}
 use Rattle.std.specs.Prelude.{Option, Some, None, nat_lt, not, IsUtf8, if◌then◌else◌}
@@ -27,7 +27,7 @@ use Rattle.tql_syntax_grammar.proofs.TextLaws.{not_deep}
 
 -- ---- tokens have bytes
 
--- a symbol is written with a byte or two
+-- a symbol has at least one byte
 symbol_some : (s : Symbol) → 0 < length (symbol_text s)
 symbol_some Open = omega arith
 symbol_some Close = omega arith
@@ -43,7 +43,7 @@ symbol_some AtMostSign = omega arith
 symbol_some MoreSign = omega arith
 symbol_some AtLeastSign = omega arith
 
--- no bytes spell no token
+-- a token has at least one byte
 spelled_some : (t : Token) (text : List ℕ) → Spells t text → 0 < length text
 spelled_some t (b ∷ bs) p = omega arith
 spelled_some (Word w) [] p = absurd (let e : false ≡ true = p.0 in cc)
@@ -52,9 +52,9 @@ spelled_some (Number ds) [] p = absurd (let e : false ≡ true = p.0 in cc)
 spelled_some (Quote t) [] p = absurd (let e = p in cc)
 spelled_some (Sign s) [] p = omega (arith, symbol_some s, ap length p)
 
--- ---- one token, and those behind it
+-- ---- one token, and the tokens after it
 
--- what stands behind the first of a list
+-- the rest of a list after its first element
 record Behind {A : Type 0} (x : A) (o : Option (List A)) (all : List A) : Type 0 where
   rest : List A
   more : o ≡ Some rest
@@ -66,7 +66,7 @@ behind_front x None all e = absurd (cc)
 behind_front x (Some xs) all e = record { rest = xs; more = refl; whole = cc }
 
 module _ (bytes : List ℕ) (more : List ℕ → Option (List Token)) where
-  -- what is read are the tokens, where it is so of what is left
+  -- the tokens that are read are those of the text, if this holds for the remaining bytes
   step_sound : (left : List ℕ) → without_lead false bytes ≡ left
       → ((r : List ℕ) (us : List Token) → more r ≡ Some us → AreTokens us r) → (ts : List Token)
       → tokens_here more left ≡ Some ts → AreTokens ts bytes
@@ -82,7 +82,7 @@ module _ (bytes : List ℕ) (more : List ℕ → Option (List Token)) where
           let p = one_more_token bytes bytes (b ∷ bs) [] s n (begin_tokens bytes) (record { at = e; token = q }) in
           subst (λ (us : List Token). AreTokens us bytes) f.whole (p.sound f.rest (k (drop n (b ∷ bs)) f.rest f.more))
 
-  -- the tokens are read, where those of what is left are
+  -- the tokens of the text are read, if those of the remaining bytes are
   step_complete : (left : List ℕ) → without_lead false bytes ≡ left
       → ((r : List ℕ) (us : List Token) → length r < length bytes → AreTokens us r → more r ≡ Some us)
       → (ts : List Token) → AreTokens ts bytes → tokens_here more left ≡ Some ts
@@ -122,18 +122,18 @@ tokens_complete (suc n) bytes ts l a =
     step_complete bytes (tokens_within n) (without_lead false bytes) refl
     (λ r us e b. tokens_complete n r us (omega (arith, e, l)) b) ts a
 
--- what is read are the text's tokens
+-- the tokens that are read are those of the text
 pub tokens_are_read : (text : List ℕ) (ts : List Token) → read_tokens text ≡ Some ts → AreTokens ts text
 tokens_are_read text ts e = tokens_sound (length text) text ts e
 
--- the text's tokens are read
+-- the tokens of the text are read
 pub reads_tokens : (text : List ℕ) (ts : List Token) → AreTokens ts text → read_tokens text ≡ Some ts
 reads_tokens text ts a = tokens_complete (length text) text ts (omega arith) a
 
 -- ---- senses
 
 module _ (p : Piece) where
-  -- of a text with these tokens, which spell a statement or none
+  -- the sense of a text with these tokens, which spell a statement or none
   module _ (w : IsWhole p) (ts : List Token) (a : AreTokens ts p.text) (flat : depth ts ≤ 64) where
     none_spelled : ((s : Statement) → IsStatement s ts → ⊥) → HasSense p (Faulty NotAStatement)
     none_spelled h =
@@ -168,7 +168,7 @@ module _ (p : Piece) where
       by_depth true q = (w, (ts, a, grind (arith, nat_tests)))
       by_depth false q = tree_sense w ts a (grind (arith, nat_tests)) (read_statement ts) refl
 
-  -- what is read of a piece is its sense
+  -- a sense of the piece is read
   pub sense_is_read : HasSense p (read_sense p)
   sense_is_read = by_length (nat_lt 1_048_576 (length p.text)) refl
     where

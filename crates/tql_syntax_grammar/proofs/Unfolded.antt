@@ -1,4 +1,4 @@
--- What computes the reading of a text.
+-- The definitions that compute the reading of a text.
 use Rattle.std.specs.Prelude.{⊤}
 use Rattle.std.specs.Fmt.{digits}
 use Rattle.std.specs.Str.{is_utf8, chars}
@@ -34,7 +34,7 @@ use Rattle.tql_syntax_grammar.specs.ReadingStatements.{assignment_at, update_at,
 use Rattle.tql_syntax_grammar.specs.ReadingStatements.{insert_at, prune_at, control_at, open_at, read_at, close_at}
 use Rattle.tql_syntax_grammar.specs.ReadingStatements.{reader_at, change_at, statement_at}
 
--- what a worked script unfolds
+-- the definitions that a worked script unfolds
 unfoldable pub reading : ⊤
 unfolding digits is_utf8 chars encode expect name_at number_at quote_at repeated named_at simple_at inside_over
     count_over primary_over signed_over next_factor term_behind term_over next_term sum_behind sum_over sum_from

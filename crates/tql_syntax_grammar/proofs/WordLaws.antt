@@ -1,4 +1,4 @@
--- Words that say nothing, names of periods, moments and points: what is read is spelled, and what is spelled is read.
+-- Optional words, names of periods, moments and points: the reading rules are sound and complete.
 use Rattle.std.specs.Prelude.{◌≡◌, ◌⊎◌, refl, ℕ, Bool, true, false, List, codes, Option, Some, None}
 use Rattle.std.proofs.Common.{sym, subst, inl, inr}
 use Rattle.tql_spec.specs.Definition.{Name}
@@ -11,13 +11,13 @@ use Rattle.tql_syntax_grammar.proofs.Steps.{Sound, Complete, Stops, into_is, spe
 use Rattle.tql_syntax_grammar.proofs.Steps.{expected}
 use Rattle.tql_syntax_grammar.proofs.Steps.{expected_of, name_is, name_of, name_no_word, quote_is, quote_of, front_is}
 
--- ---- words that say nothing
+-- ---- optional words without meaning
 
 either : (b : Bool) → (b ≡ true) ⊎ (b ≡ false)
 either true = inl refl
 either false = inr refl
 
--- what is left behind a word that may be there
+-- the tokens after an optional word
 pub noise_spelled : (w : List ℕ) (ts : List Token) → maybe (key w) ts (eat (Word w) ts).1
 noise_spelled w ts =
     elim (either (eat (Word w) ts).0) [
@@ -25,7 +25,7 @@ noise_spelled w ts =
       | inr other ↦ inl (sym (eat_false (Word w) ts other))
     ]
 
--- nothing but such a word is eaten
+-- nothing but the optional word is consumed
 pub noise_eaten : (w : List ℕ) (ts rest : List Token) → maybe (key w) ts rest → Stops (Word w) rest
     → (eat (Word w) ts).1 ≡ rest
 noise_eaten w ts rest s stops =

@@ -1,16 +1,16 @@
--- The worked scripts, from bytes to bytes: what the definitions give for them, by the reading functions.
+-- The worked scripts: their output by the definitions, computed from bytes to bytes by the reading functions.
 use Rattle.std.specs.Prelude.{◌≡◌, refl, ℕ, List, [], ◌∷◌, ◌++◌, codes}
 use Rattle.tql_spec.specs.Machine.{new_state}
 use Rattle.tql_syntax_grammar.specs.ReadingRuns.{read_output}
 use Rattle.tql_syntax_grammar.proofs.Unfolded.{reading}
 
--- what a script prints on a new state
+-- the output of a script on a new state
 abbrev prints : List ℕ → List ℕ
 prints = read_output new_state
 
--- ---- beginnings
+-- ---- common beginnings of scripts
 
--- a table of two times with one row
+-- a bitemporal table with one row
 abbrev pub one_employee : List ℕ
 one_employee =
     codes "CREATE TABLE emp (eno INTEGER, dept VARCHAR(10), estart DATE, eend DATE,\n"
@@ -29,7 +29,7 @@ no_key =
     ++ codes "AT TIMESTAMP '2011-01-01 00:00:00';\n"
     ++ codes "INSERT INTO emp VALUES (1, 'A', DATE '2011-01-01', DATE '2011-12-31');\n"
 
--- a table with history and no rows
+-- a system-versioned table without rows
 abbrev pub empty_log : List ℕ
 empty_log =
     codes "CREATE TABLE log (x INTEGER, s TIMESTAMP GENERATED ALWAYS AS ROW START,\n"
@@ -50,7 +50,7 @@ nothing_said :
 unfolding reading
 nothing_said = refl
 
--- a commit's own moment sees it
+-- AS OF the moment of a commit sees the commit
 as_of_a_commit :
     prints (one_employee
     ++ codes "SELECT eno, dept FROM emp FOR SYSTEM_TIME AS OF TIMESTAMP '2011-01-01 00:00:00';")
@@ -58,7 +58,7 @@ as_of_a_commit :
 unfolding reading
 as_of_a_commit = refl
 
--- the moment before does not
+-- AS OF the moment before it does not
 as_of_before_it :
     prints (one_employee
     ++ codes "SELECT eno, dept FROM emp FOR SYSTEM_TIME AS OF TIMESTAMP '2010-12-31 23:59:59.999999';")
@@ -66,7 +66,7 @@ as_of_before_it :
 unfolding reading
 as_of_before_it = refl
 
--- a portion inside a period leaves what stands on both sides, and history keeps the old row
+-- a portion inside a period leaves the parts on both sides, and history keeps the old row
 portion_inside :
     prints (one_employee
     ++ codes "AT TIMESTAMP '2011-02-01 00:00:00'; "
@@ -80,7 +80,7 @@ portion_inside :
 unfolding reading
 portion_inside = refl
 
--- a portion that ends where a period starts touches nothing
+-- a portion that ends where a period starts changes nothing
 portion_beside :
     prints (one_employee
     ++ codes "UPDATE emp FOR PORTION OF ep FROM DATE '2010-06-01' TO DATE '2011-01-01' SET dept = 'B'; "
@@ -89,7 +89,7 @@ portion_beside :
 unfolding reading
 portion_beside = refl
 
--- a portion that is wider than a period leaves no other parts
+-- a portion that is wider than a period leaves no remaining parts
 portion_around :
     prints (one_employee
     ++ codes "UPDATE emp FOR PORTION OF ep FROM DATE '2010-01-01' TO DATE '2012-06-01' SET dept = 'B'; "
@@ -109,7 +109,7 @@ one_day_cut_out :
 unfolding reading
 one_day_cut_out = refl
 
--- equal rows are each found in a range
+-- each of several equal rows is found in a range
 equal_rows :
     prints (empty_log
     ++ codes "INSERT INTO log VALUES (7), (7); AT TIMESTAMP '2011-01-03 00:00:00'; DELETE FROM log WHERE x = 7; "
@@ -120,7 +120,7 @@ equal_rows :
 unfolding reading
 equal_rows = refl
 
--- FROM TO leaves its end out, BETWEEN takes it; the highest moment and a range that falls find nothing
+-- FROM TO excludes its end, BETWEEN includes it; the highest moment and a descending range find nothing
 ends_of_ranges :
     prints (one_employee
     ++ codes "SELECT eno FROM emp FOR SYSTEM_TIME FROM TIMESTAMP '2010-01-01 00:00:00' TO TIMESTAMP '2011-01-01 "
@@ -134,7 +134,7 @@ ends_of_ranges :
 unfolding reading
 ends_of_ranges = refl
 
--- periods of one key may meet and not overlap
+-- periods of one key may meet but not overlap
 key_by_period :
     prints (one_employee
     ++ codes "INSERT INTO emp VALUES (1, 'C', DATE '2011-12-30', DATE '2012-06-01'); "
@@ -143,7 +143,7 @@ key_by_period :
 unfolding reading
 key_by_period = refl
 
--- a reference is met at every point, and its parent is not dropped
+-- a reference has to be met at every point, and a referenced table cannot be dropped
 parent_cut_short :
     prints (codes "CREATE TABLE dept (dno INTEGER, ds DATE, de DATE, PERIOD FOR dp (ds, de), PRIMARY KEY (dno, dp "
     ++ codes "WITHOUT OVERLAPS)); "
@@ -159,7 +159,7 @@ parent_cut_short :
 unfolding reading
 parent_cut_short = refl
 
--- an unknown CHECK passes, and NOT leaves it unknown
+-- an unknown CHECK passes, and NOT of unknown is unknown
 unknown_check :
     prints (codes "CREATE TABLE c (x INTEGER, CHECK (x > 0)); INSERT INTO c VALUES (NULL); INSERT INTO c VALUES (0); "
     ++ codes "SELECT x FROM c WHERE NOT (x > 0);")
@@ -167,7 +167,7 @@ unknown_check :
 unfolding reading
 unknown_check = refl
 
--- a conjunct is reached only where those before it are true
+-- a conjunct is evaluated only if those before it are true
 conjuncts_from_the_left :
     prints (two_numbers
     ++ codes "SELECT x FROM t WHERE x * 9223372036854775807 > 0 AND x = 1; "
@@ -176,7 +176,7 @@ conjuncts_from_the_left :
 unfolding reading
 conjuncts_from_the_left = refl
 
--- of a transaction only its end is in the history
+-- history has only the final state of a transaction
 only_the_last :
     prints (empty_log
     ++ codes "START TRANSACTION; INSERT INTO log VALUES (1); UPDATE log SET x = 2; UPDATE log SET x = 3; "
@@ -190,7 +190,7 @@ only_the_last :
 unfolding reading
 only_the_last = refl
 
--- AT names a moment after the last commit
+-- AT needs a moment after the last commit
 clock_does_not_stand :
     prints (one_employee
     ++ codes "AT TIMESTAMP '2011-01-01 00:00:00';")
@@ -198,7 +198,7 @@ clock_does_not_stand :
 unfolding reading
 clock_does_not_stand = refl
 
--- the whole numbers' ends, and the clock's
+-- the limits of integers and of the clock
 last_moment :
     prints (two_numbers
     ++ codes "INSERT INTO t VALUES (9223372036854775808); INSERT INTO t VALUES (-9223372036854775808); "
@@ -208,7 +208,7 @@ last_moment :
 unfolding reading
 last_moment = refl
 
--- a statement without its end
+-- a statement without its `;`
 cut_off :
     prints (one_employee
     ++ codes "DELETE FROM emp WHERE eno = 1")
@@ -232,7 +232,7 @@ null_in_a_list :
 unfolding reading
 null_in_a_list = refl
 
--- of several faults the first in the order
+-- of several faults, the first in the order is reported
 first_of_three_faults :
     prints (one_employee
     ++ codes "SELECT dept + 1, nocol FROM nosuch; SELECT dept + 1, nocol FROM emp; SELECT dept + 1 FROM emp;")
@@ -250,7 +250,7 @@ all_or_nothing :
 unfolding reading
 all_or_nothing = refl
 
--- a period does not hold its end
+-- a period does not contain its end
 last_point :
     prints (one_employee
     ++ codes "SELECT eno FROM emp WHERE ep CONTAINS DATE '2011-12-31'; "
@@ -271,7 +271,7 @@ left_join :
 unfolding reading
 left_join = refl
 
--- a portion of nothing, a text that is too long, a generated column
+-- an empty portion, a text that is too long, a generated column
 refused_updates :
     prints (one_employee
     ++ codes "UPDATE emp FOR PORTION OF ep FROM DATE '2011-06-01' TO DATE '2011-06-01' SET dept = 'B'; "
@@ -281,7 +281,7 @@ refused_updates :
 unfolding reading
 refused_updates = refl
 
--- NULL is one group
+-- NULL values form one group
 groups :
     prints (codes "CREATE TABLE g (k VARCHAR(2), n INTEGER); "
     ++ codes "INSERT INTO g VALUES ('a', 1), (NULL, 5), ('a', NULL), (NULL, 7); "
@@ -305,7 +305,7 @@ quoted :
 unfolding reading
 quoted = refl
 
--- portions in rows of two times
+-- overlapping portions in a bitemporal table without a key
 portions :
     prints (no_key
     ++ codes "UPDATE emp FOR PORTION OF ep FROM DATE '2011-02-01' TO DATE '2011-03-01' SET dept = 'B'; "
@@ -317,7 +317,7 @@ portions :
 unfolding reading
 portions = refl
 
--- where a portion lies outside
+-- a condition is not evaluated on rows outside the portion
 out_of_portion :
     prints (no_key
     ++ codes "INSERT INTO emp VALUES (9223372036854775807, 'Z', DATE '2012-01-01', DATE '2013-01-01'); "
@@ -327,7 +327,7 @@ out_of_portion :
 unfolding reading
 out_of_portion = refl
 
--- a period rises, and does not take NULL
+-- the start of a period is before its end, and neither is NULL
 nulls_in_periods :
     prints (no_key
     ++ codes "INSERT INTO emp VALUES (2, 'B', DATE '2011-05-01', DATE '2011-05-01'); "
@@ -338,7 +338,7 @@ nulls_in_periods :
 unfolding reading
 nulls_in_periods = refl
 
--- keys are tested at the end of a statement
+-- keys are checked at the end of a statement
 keys :
     prints (codes "CREATE TABLE k (x INTEGER, PRIMARY KEY (x)); INSERT INTO k VALUES (1), (2); "
     ++ codes "UPDATE k SET x = x + 1; INSERT INTO k VALUES (2); SELECT x FROM k;")
@@ -346,7 +346,7 @@ keys :
 unfolding reading
 keys = refl
 
--- what joins and their conditions reach
+-- the rows on which join conditions are evaluated, and the rows that joins return
 joins :
     prints (two_numbers
     ++ codes "CREATE TABLE v (y INTEGER); INSERT INTO v VALUES (9223372036854775807); "
@@ -367,14 +367,14 @@ deep :
 unfolding reading
 deep = refl
 
--- a byte that is no text, in a quote with a `;`
+-- a byte that is not UTF-8, in a quote with a `;`
 not_utf8 :
     prints (39 ∷ 59 ∷ 255 ∷ 39 ∷ 59 ∷ [])
     ≡ codes "REFUSED E11 not UTF-8\n"
 unfolding reading
 not_utf8 = refl
 
--- nothing before a `;`
+-- empty statements
 no_statements :
     prints (codes ";;")
     ≡ []
@@ -414,7 +414,7 @@ undone :
 unfolding reading
 undone = refl
 
--- a row that no commit saw
+-- a row that is inserted and deleted in one transaction leaves no history
 short_lived :
     prints (empty_log
     ++ codes "START TRANSACTION; INSERT INTO log VALUES (1); DELETE FROM log; COMMIT; "
@@ -424,7 +424,7 @@ short_lived :
 unfolding reading
 short_lived = refl
 
--- a fault in one row changes none
+-- a fault in one row changes no row
 no_change :
     prints (two_numbers
     ++ codes "UPDATE t SET x = x + 9223372036854775807; SELECT x FROM t;")
@@ -432,7 +432,7 @@ no_change :
 unfolding reading
 no_change = refl
 
--- SET evaluates all before it sets any
+-- SET evaluates all values before it assigns any
 exchanged :
     prints (codes "CREATE TABLE w (a INTEGER, b INTEGER); INSERT INTO w VALUES (1, 2); UPDATE w SET a = b, b = a; "
     ++ codes "SELECT a, b FROM w;")
@@ -440,7 +440,7 @@ exchanged :
 unfolding reading
 exchanged = refl
 
--- nothing before the horizon is asked for, nor does it go back; within a transaction it is not set at all
+-- no query before the horizon is allowed, the horizon never moves back, and it cannot be set within a transaction
 pruned :
     prints (empty_log
     ++ codes "INSERT INTO log VALUES (7); AT TIMESTAMP '2011-02-01 00:00:00'; DELETE FROM log; "
@@ -470,7 +470,7 @@ reader_stays :
 unfolding reading
 reader_stays = refl
 
--- a version that began before the horizon and stands there is kept
+-- a version that began before the horizon and ended after it is kept
 pruned_within :
     prints (empty_log
     ++ codes "INSERT INTO log VALUES (7); AT TIMESTAMP '2011-02-01 00:00:00'; DELETE FROM log; "

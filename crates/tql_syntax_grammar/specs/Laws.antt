@@ -1,4 +1,4 @@
--- The law of the reading functions: they give the statement that the grammar says the tokens spell, and no other.
+-- The law of the reading functions: they return exactly the statement that the tokens spell by the grammar.
 use Rattle.std.specs.Prelude.{◌≡◌, ◌↔◌, List, Some}
 use Rattle.tql_spec.specs.Token.{Token}
 use Rattle.tql_spec.specs.Syntax.{Statement}

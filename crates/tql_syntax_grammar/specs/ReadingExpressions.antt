@@ -1,4 +1,4 @@
--- Reading expressions and conditions. A number bounds how deep parentheses may go; as many as there are tokens are
+-- Reading expressions and conditions. A number bounds how deep parentheses may nest; the number of tokens is always
 -- enough.
 use Rattle.std.specs.Prelude.{ℕ, zero, suc, Bool, true, false, ◌&&◌, ◌||◌, if◌then◌else◌, List, [], ◌∷◌, codes}
 use Rattle.std.specs.Prelude.{length, Option, Some, None}
@@ -44,24 +44,24 @@ function_at =
     (if_front (Word (codes "MIN")) (found (Some Min))
     (if_front (Word (codes "MAX")) (found (Some Max)) (found None)))
 
--- the rules over expressions that lie one level deeper
+-- the rules, given the rule for expressions one level deeper
 module _ (inner : Parser Sum) where
   -- expr )
   unfoldable pub inside_over : Parser Sum
   inside_over ts = inner ts >>= λ e a. symbol Close a >>= λ _ b. Read e b
 
-  -- COUNT is read: ( * ), or ( expr )
+  -- after COUNT: ( * ), or ( expr )
   unfoldable pub count_over : Parser Primary
   count_over ts =
       symbol Open ts >>= λ _ a.
       if_front (Sign Star) (λ us. into (λ _. CountStar) (symbol Close us)) (λ us. into (Over Count) (inside_over us)) a
 
-  -- an aggregate but COUNT, a literal or a column
+  -- an aggregate other than COUNT, a literal or a column
   abbrev pub aggregate_or_simple : Option Function → Parser Primary
   aggregate_or_simple None ts = simple_at ts
   aggregate_or_simple (Some f) ts = symbol Open ts >>= λ _ a. into (Over f) (inside_over a)
 
-  -- the choices behind those of a word or `(`
+  -- the alternatives without a first `(`, DATE, TIMESTAMP or COUNT
   abbrev pub other_primary : Parser Primary
   other_primary ts = function_at ts >>= λ f a. aggregate_or_simple f a
 
@@ -123,7 +123,7 @@ comparison_at =
     (if_front (Sign MoreSign) (found (Some Above))
     (if_front (Sign AtLeastSign) (found (Some AtLeast)) (found None))))))
 
--- IMMEDIATELY is read: PRECEDES or SUCCEEDS
+-- after IMMEDIATELY: PRECEDES or SUCCEEDS
 unfoldable pub immediate_at : Parser Relation
 immediate_at =
     if_front (Word (codes "PRECEDES")) (found ImmediatelyPrecedes)
@@ -155,7 +155,7 @@ as_named _ = None
 
 -- ---- conditions
 
--- a test, or an expression that goes on to none
+-- a test, or an expression that does not continue as a test
 pub data Tested : Type 0 where
   WholeTest : Test → Tested
   BareExpr : Sum → Tested
@@ -165,17 +165,17 @@ pub data Mixed : Type 0 where
   WholeCondition : Condition → Mixed
   WholeExpr : Sum → Mixed
 
--- the test, where there is one
+-- the test, if it is one; else failure
 abbrev pub the_test : Tested → Parser Test
 the_test (WholeTest t) ts = Read t ts
 the_test (BareExpr e) ts = Failed
 
--- a test that has to be there
+-- the test, if there is one; else failure
 abbrev pub wanted_test : Option Test → Parser Test
 wanted_test None ts = Failed
 wanted_test (Some t) ts = Read t ts
 
--- the test, or else the expression alone
+-- the test, if there is one; else the expression alone
 abbrev pub test_or : Sum → Option Test → Tested
 test_or e None = BareExpr e
 test_or e (Some t) = WholeTest t
@@ -185,13 +185,13 @@ unfoldable pub qualified_system_at : Parser Marked
 qualified_system_at ts =
     name_at ts >>= λ n a. symbol Dot a >>= λ _ b. into (λ _. SystemTime (Some n)) (keyword (codes "SYSTEM_TIME") b)
 
--- [NOT] NULL, behind IS
+-- after IS: [NOT] NULL
 unfoldable pub null_test_at : Sum → Parser Test
 null_test_at e ts = negation_at ts >>= λ b a. into (λ _. NullTest b e) (keyword (codes "NULL") a)
 
--- the rules over expressions that lie one level deeper
+-- the rules, given the rule for expressions one level deeper
 module _ (inner : Parser Sum) where
-  -- PERIOD is read: ( expr , expr )
+  -- after PERIOD: ( expr , expr )
   unfoldable pub ends_over : Parser Marked
   ends_over ts =
       symbol Open ts >>= λ _ a. sum_over inner a >>= λ s b. symbol Comma b >>= λ _ c. sum_over inner c >>= λ e d.
@@ -205,12 +205,12 @@ module _ (inner : Parser Sum) where
   unfoldable pub operand_over : Parser Operand
   operand_over ts = if begins_marked ts then into ByMark (marked_over ts) else into ByName (named_at ts)
 
-  -- CONTAINS is read, behind this operand
+  -- after this operand and CONTAINS: a marked period or an expression
   unfoldable pub contained_over : Operand → Parser Test
   contained_over x ts = if begins_marked ts then into (ContainsPeriod x) (marked_over ts) else into (ContainsPoint x)
       (sum_over inner ts)
 
-  -- behind this operand: a relation and an operand, CONTAINS, or neither
+  -- after this operand: a relation and an operand, CONTAINS, or neither
   abbrev pub related_by : Operand → Option Relation → Parser (Option Test)
   related_by x (Some r) ts = into (λ y. Some (RelationTest x r y)) (operand_over ts)
   related_by x None ts = behind (Word (codes "CONTAINS")) (contained_over x) ts
@@ -218,30 +218,30 @@ module _ (inner : Parser Sum) where
   unfoldable pub related_over : Operand → Parser (Option Test)
   related_over x ts = relation_at ts >>= λ r a. related_by x r a
 
-  -- expr AND expr, behind BETWEEN
+  -- after [NOT] BETWEEN: expr AND expr
   unfoldable pub between_over : Bool → Sum → Parser Test
   between_over b e ts =
       sum_over inner ts >>= λ low a. keyword (codes "AND") a >>= λ _ c. into (λ high. BetweenTest b e low high)
       (sum_over inner c)
 
-  -- ( expr {, expr} ), behind IN
+  -- after [NOT] IN: ( expr {, expr} )
   unfoldable pub in_over : Bool → Sum → Parser Test
   in_over b e ts =
       symbol Open ts >>= λ _ a. sum_over inner a >>= λ x c. more (next (sum_over inner)) [] c >>= λ xs d.
       into (λ _. InTest b e x xs) (symbol Close d)
 
-  -- NOT is read: BETWEEN or IN
+  -- after NOT: BETWEEN or IN
   unfoldable pub denied_over : Sum → Parser Test
   denied_over e =
       if_front (Word (codes "BETWEEN")) (between_over true e)
       (λ us. keyword (codes "IN") us >>= λ _ a. in_over true e a)
 
-  -- behind this expression: a relation or CONTAINS where it is one column reference, or nothing
+  -- after this expression: a relation or CONTAINS if it is one column reference, or nothing
   abbrev pub period_test_over : Sum → Option Named → Parser Tested
   period_test_over e None ts = Read (BareExpr e) ts
   period_test_over e (Some r) ts = into (test_or e) (related_over (ByName r) ts)
 
-  -- behind this expression: a test that a word begins, or nothing
+  -- after this expression: the rest of a test that continues with a word, or nothing
   unfoldable pub word_test_over : Sum → Parser Tested
   word_test_over e =
       if_front (Word (codes "IS")) (λ us. into WholeTest (null_test_at e us))
@@ -249,7 +249,7 @@ module _ (inner : Parser Sum) where
       (if_front (Word (codes "BETWEEN")) (λ us. into WholeTest (between_over false e us))
       (if_front (Word (codes "IN")) (λ us. into WholeTest (in_over false e us)) (period_test_over e (as_named e)))))
 
-  -- behind this expression: what a comparison compares it with, or another test, or nothing
+  -- after this expression: a comparison and its right side, the rest of another test, or nothing
   abbrev pub compared_by : Sum → Option Comparison → Parser Tested
   compared_by e (Some op) ts = into (λ b. WholeTest (Compared op e b)) (sum_over inner ts)
   compared_by e None ts = word_test_over e ts
@@ -261,18 +261,18 @@ module _ (inner : Parser Sum) where
   unfoldable pub marked_test_over : Parser Tested
   marked_test_over ts = marked_over ts >>= λ m a. related_over (ByMark m) a >>= λ o b. into WholeTest (wanted_test o b)
 
-  -- and over what lies between parentheses
+  -- and given the rule for the content of parentheses
   module _ (mixed : Parser Mixed) where
-    -- behind `( condition )` or `( expr )`
+    -- after `( condition )` or `( expr )`
     abbrev pub closed_over : Mixed → Parser Tested
     closed_over (WholeCondition c) ts = Read (WholeTest (Grouped c)) ts
     closed_over (WholeExpr e) ts = sum_from inner (Enclosed e) ts >>= λ s a. test_behind s a
 
-    -- `(` is read
+    -- after `(`
     unfoldable pub opened_over : Parser Tested
     opened_over ts = mixed ts >>= λ m a. symbol Close a >>= λ _ b. closed_over m b
 
-    -- no marked period is in front
+    -- where no marked period is in front
     abbrev pub unmarked_over : Parser Tested
     unmarked_over = if_front (Sign Open) opened_over (λ us. sum_over inner us >>= λ e a. test_behind e a)
 
@@ -307,7 +307,7 @@ module _ (inner : Parser Sum) where
     unfoldable pub condition_over : Parser Condition
     condition_over ts = factor_over ts >>= λ f a. condition_behind f a
 
-    -- behind a test or an expression
+    -- after a test or an expression
     abbrev pub mixed_behind : Tested → Parser Mixed
     mixed_behind (WholeTest t) ts = into WholeCondition (condition_behind (Straight t) ts)
     mixed_behind (BareExpr e) ts = Read (WholeExpr e) ts
@@ -328,7 +328,7 @@ unfoldable pub condition_at : ℕ → Parser Condition
 condition_at zero ts = Failed
 condition_at (suc n) ts = condition_over (expr_at n) (mixed_at n) ts
 
--- ---- with as many levels as there are tokens
+-- ---- with the number of tokens as the bound on levels
 
 abbrev pub expr_here : Parser Sum
 expr_here ts = expr_at (length ts) ts

@@ -33,11 +33,11 @@ unfoldable pub zone_at : Parser (Unit {0})
 zone_at = if_front (Word (codes "WITHOUT")) (λ us. keyword (codes "TIME") us >>= λ _ a. keyword (codes "ZONE") a)
     (found tt)
 
--- TIMESTAMP is read
+-- after TIMESTAMP
 unfoldable pub timestamp_type_at : Parser TypeName
 timestamp_type_at ts = precision_at ts >>= λ p a. into (λ _. TimestampType p) (zone_at a)
 
--- the types of words other than those of whole numbers
+-- the types other than whole numbers
 abbrev pub other_type_at : Parser TypeName
 other_type_at =
     if_front (Word (codes "VARCHAR")) (λ us. into VarcharType (size_at us))
@@ -54,13 +54,13 @@ type_at =
 unfoldable pub not_null_at : Parser Bool
 not_null_at = if_front (Word (codes "NOT")) (λ us. into (λ _. true) (keyword (codes "NULL") us)) (found false)
 
--- GENERATED is read: ALWAYS AS ROW, and START or END
+-- after GENERATED: ALWAYS AS ROW, and START or END
 unfoldable pub generated_at : Parser Generated
 generated_at ts =
     keyword (codes "ALWAYS") ts >>= λ _ a. keyword (codes "AS") a >>= λ _ b. keyword (codes "ROW") b >>= λ _ c.
     if_front (Word (codes "START")) (found RowStart) (λ us. into (λ _. RowEnd) (keyword (codes "END") us)) c
 
--- a column, of its parts; NOT NULL may stand on either side of GENERATED
+-- a column, from its parts; NOT NULL may come before or after GENERATED
 abbrev pub column_of : Name → TypeName → Bool → Option Generated → Bool → Element
 column_of n t first g second = ColumnElement (record {
   name = n;
@@ -69,7 +69,7 @@ column_of n t first g second = ColumnElement (record {
   generated = g;
 })
 
--- behind the first [NOT NULL] of a column
+-- the end of a column, after the optional GENERATED
 abbrev pub column_end : Name → TypeName → Bool → Option Generated → Parser Element
 column_end n t first None ts = Read (column_of n t first None false) ts
 column_end n t first (Some g) ts = not_null_at ts >>= λ second a. Read (column_of n t first (Some g) second) a
@@ -85,21 +85,21 @@ column_at ts =
 unfoldable pub period_name_at : Parser (Option Name)
 period_name_at = if_front (Word (codes "SYSTEM_TIME")) (found None) (λ us. into Some (name_at us))
 
--- PERIOD is read
+-- after PERIOD
 unfoldable pub period_at : Parser Element
 period_at ts =
     keyword (codes "FOR") ts >>= λ _ a. period_name_at a >>= λ p b. symbol Open b >>= λ _ c. name_at c >>= λ s d.
     symbol Comma d >>= λ _ e. name_at e >>= λ f g. symbol Close g >>= λ _ rest. Read (PeriodElement p s f) rest
 
--- a comma, a name and WITHOUT are in front
+-- whether a comma is in front and WITHOUT is the third token
 abbrev pub begins_key_period : List Token → Bool
 begins_key_period ts = begins (Sign Comma) ts && begins_third (Word (codes "WITHOUT")) ts
 
--- a comma and PERIOD are in front
+-- whether a comma and PERIOD are in front
 abbrev pub begins_reference_period : List Token → Bool
 begins_reference_period ts = begins (Sign Comma) ts && begins_second (Word (codes "PERIOD")) ts
 
--- , name, where it is no period of the key
+-- , name, unless it is the period of the key
 unfoldable pub next_key_column : Parser (Option Name)
 next_key_column ts = if begins_key_period ts then Read None ts else next name_at ts
 
@@ -108,13 +108,13 @@ unfoldable pub key_period_at : Parser Name
 key_period_at ts =
     name_at ts >>= λ n a. keyword (codes "WITHOUT") a >>= λ _ b. keyword (codes "OVERLAPS") b >>= λ _ c. Read n c
 
--- PRIMARY KEY or UNIQUE is read
+-- after PRIMARY KEY or UNIQUE
 unfoldable pub key_at : Bool → Parser Constraint
 key_at primary ts =
     symbol Open ts >>= λ _ a. name_at a >>= λ c b. more next_key_column [] b >>= λ cs d. next key_period_at d >>= λ p e.
     symbol Close e >>= λ _ rest. Read (KeyTree primary c cs p) rest
 
--- , name, where it is no period of the reference
+-- , name, unless it is the period of the foreign key
 unfoldable pub next_reference_column : Parser (Option Name)
 next_reference_column ts = if begins_reference_period ts then Read None ts else next name_at ts
 
@@ -128,13 +128,13 @@ reflist_at ts =
     reference_period_at d >>= λ p e.
     symbol Close e >>= λ _ rest. Read (record { first = c; more = cs; period = p }) rest
 
--- ON is read: DELETE or UPDATE, and NO ACTION
+-- after ON: DELETE or UPDATE, and NO ACTION
 unfoldable pub no_action_at : Parser (Unit {0})
 no_action_at ts =
     if_front (Word (codes "DELETE")) (found tt) (keyword (codes "UPDATE")) ts >>= λ _ a.
     keyword (codes "NO") a >>= λ _ b. keyword (codes "ACTION") b
 
--- any number of them; the number bounds the turns
+-- any number of ON .. NO ACTION; the number bounds the turns
 unfoldable pub no_actions_from : ℕ → Parser (Unit {0})
 no_actions_from zero ts = Read tt ts
 no_actions_from (suc n) ts =
@@ -145,14 +145,14 @@ no_actions_from (suc n) ts =
 abbrev pub no_actions : Parser (Unit {0})
 no_actions ts = no_actions_from (length ts) ts
 
--- FOREIGN is read
+-- after FOREIGN
 unfoldable pub foreign_at : Parser Constraint
 foreign_at ts =
     keyword (codes "KEY") ts >>= λ _ a. reflist_at a >>= λ child b. keyword (codes "REFERENCES") b >>= λ _ c. name_at
     c >>= λ t d.
     reflist_at d >>= λ parent e. no_actions e >>= λ _ rest. Read (ForeignTree child t parent) rest
 
--- CHECK is read
+-- after CHECK
 unfoldable pub check_at : Parser Constraint
 check_at ts = symbol Open ts >>= λ _ a. condition_here a >>= λ c b. symbol Close b >>= λ _ rest. Read (CheckTree c) rest
 
@@ -162,7 +162,7 @@ constraint_at =
     (if_front (Word (codes "UNIQUE")) (key_at false)
     (if_front (Word (codes "FOREIGN")) foreign_at (λ us. keyword (codes "CHECK") us >>= λ _ a. check_at a)))
 
--- CONSTRAINT is read
+-- after CONSTRAINT
 unfoldable pub named_constraint_at : Parser Constraint
 named_constraint_at ts = name_at ts >>= λ _ a. constraint_at a
 
@@ -190,18 +190,18 @@ versioning_at =
     if_front (Word (codes "WITH"))
     (λ us. keyword (codes "SYSTEM") us >>= λ _ a. into (λ _. true) (keyword (codes "VERSIONING") a)) (found false)
 
--- CREATE is read
+-- after CREATE
 unfoldable pub create_at : Parser Statement
 create_at ts =
     keyword (codes "TABLE") ts >>= λ _ a. name_at a >>= λ n b. symbol Open b >>= λ _ c. element_at c >>= λ e d.
     more (next element_at) [] d >>= λ es f. symbol Close f >>= λ _ g. versioning_at g >>= λ v rest. Read
     (CreateTree n e es v) rest
 
--- an optional word that says nothing
+-- an optional word without meaning
 abbrev pub noise : List ℕ → Parser (Unit {0})
 noise w ts = Read tt (eat (Word w) ts).1
 
--- DROP is read
+-- after DROP
 unfoldable pub drop_at : Parser Statement
 drop_at ts =
     keyword (codes "TABLE") ts >>= λ _ a. name_at a >>= λ n b. noise (codes "RESTRICT") b >>= λ _ rest. Read
@@ -219,15 +219,15 @@ point_at = if_front (Word (codes "DATE")) (λ us. into DatePoint (quote_at us)) 
 
 -- ---- queries
 
--- FROM is read: moment TO moment
+-- after FROM: moment TO moment
 unfoldable pub from_to_at : Parser SpanTree
 from_to_at ts = moment_at ts >>= λ a b. keyword (codes "TO") b >>= λ _ c. into (FromToTree a) (moment_at c)
 
--- BETWEEN is read: moment AND moment
+-- after BETWEEN: moment AND moment
 unfoldable pub between_at : Parser SpanTree
 between_at ts = moment_at ts >>= λ a b. keyword (codes "AND") b >>= λ _ c. into (BetweenTree a) (moment_at c)
 
--- FOR is read
+-- after FOR
 unfoldable pub span_behind : Parser SpanTree
 span_behind ts =
     keyword (codes "SYSTEM_TIME") ts >>= λ _ a.
@@ -252,19 +252,19 @@ ref_at ts = name_at ts >>= λ t a. span_at a >>= λ s b. into (λ n. record {
   alias = n;
 }) (alias_at b)
 
--- ref ON condition, joined so
+-- ref ON condition, in a join of this kind
 unfoldable pub joined_on_at : (RefTree → Condition → JoinTree) → Parser JoinTree
 joined_on_at which ts = ref_at ts >>= λ r a. keyword (codes "ON") a >>= λ _ b. into (which r) (condition_here b)
 
--- INNER is read
+-- after INNER
 unfoldable pub inner_at : Parser JoinTree
 inner_at ts = keyword (codes "JOIN") ts >>= λ _ a. joined_on_at InnerJoin a
 
--- LEFT is read
+-- after LEFT
 unfoldable pub left_at : Parser JoinTree
 left_at ts = noise (codes "OUTER") ts >>= λ _ a. keyword (codes "JOIN") a >>= λ _ b. joined_on_at LeftJoin b
 
--- CROSS is read
+-- after CROSS
 unfoldable pub cross_at : Parser JoinTree
 cross_at ts = keyword (codes "JOIN") ts >>= λ _ a. into CrossJoin (ref_at a)
 
@@ -303,19 +303,19 @@ having_at = behind (Word (codes "HAVING")) condition_here
 unfoldable pub group_by_at : Parser (List Named)
 group_by_at = if_front (Word (codes "GROUP")) (λ us. keyword (codes "BY") us >>= λ _ a. separated named_at a) (found [])
 
--- the clauses behind FROM and its chains
+-- the clauses after FROM and its chains
 unfoldable pub select_end : Bool → Items → ChainTree → List ChainTree → Parser SelectTree
 select_end d is c cs ts =
     where_at ts >>= λ w a. group_by_at a >>= λ g b. having_at b >>= λ h rest.
     Read (record { distinct = d; items = is; first = c; more = cs; filter = w; grouping = g; having = h }) rest
 
--- SELECT is read
+-- after SELECT
 unfoldable pub select_at : Parser SelectTree
 select_at ts =
     distinct_at ts >>= λ d a. items_at a >>= λ is b. keyword (codes "FROM") b >>= λ _ c. chain_at c >>= λ first e.
     more (next chain_at) [] e >>= λ others f. select_end d is first others f
 
--- a position by its digits, or a heading
+-- the digits of a position, or a heading
 unfoldable pub key_name_at : Parser KeyName
 key_name_at (Number ds ∷ ts) = Read (ByPosition ds) ts
 key_name_at ts = into ByHeading (name_at ts)
@@ -332,7 +332,7 @@ unfoldable pub order_by_at : Parser (List OrderTree)
 order_by_at = if_front (Word (codes "ORDER")) (λ us. keyword (codes "BY") us >>= λ _ a. separated order_key_at a)
     (found [])
 
--- SELECT is read
+-- after SELECT
 unfoldable pub query_at : Parser Statement
 query_at ts = select_at ts >>= λ s a. into (QueryTree s) (order_by_at a)
 
@@ -346,7 +346,7 @@ tuple_at ts =
     symbol Open ts >>= λ _ a. cell_at a >>= λ c b. more (next cell_at) [] b >>= λ cs d. symbol Close d >>= λ _ rest.
     Read (record { first = c; more = cs }) rest
 
--- FOR is read
+-- after FOR
 unfoldable pub portion_behind : Parser PortionTree
 portion_behind ts =
     keyword (codes "PORTION") ts >>= λ _ a. keyword (codes "OF") a >>= λ _ b. period_name_at b >>= λ p c.
@@ -363,13 +363,13 @@ assignment_at ts = name_at ts >>= λ n a. symbol EqualSign a >>= λ _ b. into (�
   value = c;
 }) (cell_at b)
 
--- UPDATE is read
+-- after UPDATE
 unfoldable pub update_at : Parser Statement
 update_at ts =
     name_at ts >>= λ n a. portion_at a >>= λ p b. keyword (codes "SET") b >>= λ _ c. assignment_at c >>= λ first d.
     more (next assignment_at) [] d >>= λ others e. into (UpdateTree n p first others) (where_at e)
 
--- DELETE is read
+-- after DELETE
 unfoldable pub delete_at : Parser Statement
 delete_at ts =
     keyword (codes "FROM") ts >>= λ _ a. name_at a >>= λ n b. portion_at b >>= λ p c. into (DeleteTree n p) (where_at c)
@@ -379,11 +379,11 @@ unfoldable pub column_list_at : Parser (List Name)
 column_list_at =
     if_front (Sign Open) (λ us. separated name_at us >>= λ ns a. symbol Close a >>= λ _ rest. Read ns rest) (found [])
 
--- VALUES is read
+-- after VALUES
 unfoldable pub values_at : Name → List Name → Parser Statement
 values_at n cs ts = tuple_at ts >>= λ t a. into (InsertValues n cs t) (more (next tuple_at) [] a)
 
--- INSERT is read
+-- after INSERT
 unfoldable pub insert_at : Parser Statement
 insert_at ts =
     keyword (codes "INTO") ts >>= λ _ a. name_at a >>= λ n b. column_list_at b >>= λ cs c.
@@ -392,15 +392,15 @@ insert_at ts =
 
 -- ---- statements
 
--- a word has to be in front, and an optional one may stand behind it
+-- after START: TRANSACTION
 abbrev pub start_at : Parser Statement
 start_at ts = into (λ _. StartTree) (keyword (codes "TRANSACTION") ts)
 
--- an end of a transaction, and WORK or not
+-- after COMMIT or ROLLBACK: an optional WORK
 abbrev pub work_at : Statement → Parser Statement
 work_at s ts = into (λ _. s) (noise (codes "WORK") ts)
 
--- PRUNE is read
+-- after PRUNE
 unfoldable pub prune_at : Parser Statement
 prune_at ts =
     keyword (codes "HISTORY") ts >>= λ _ a. keyword (codes "BEFORE") a >>= λ _ b. into PruneTree (moment_at b)
@@ -414,17 +414,17 @@ control_at =
     (if_front (Word (codes "PRUNE")) prune_at
     (λ us. keyword (codes "AT") us >>= λ _ a. into AtTree (moment_at a)))))
 
--- OPEN is read
+-- after OPEN
 unfoldable pub open_at : Parser Statement
 open_at ts = keyword (codes "READER") ts >>= λ _ a. into OpenTree (name_at a)
 
--- READ is read
+-- after READ
 unfoldable pub read_at : Parser Statement
 read_at ts =
     name_at ts >>= λ n a. keyword (codes "SELECT") a >>= λ _ b. select_at b >>= λ s c.
     into (ReadTree n s) (order_by_at c)
 
--- CLOSE is read
+-- after CLOSE
 unfoldable pub close_at : Parser Statement
 close_at ts = keyword (codes "READER") ts >>= λ _ a. into CloseTree (name_at a)
 
@@ -449,6 +449,6 @@ statement_at =
     (if_front (Word (codes "CREATE")) create_at
     (if_front (Word (codes "DROP")) drop_at change_at))
 
--- the statement of the tokens
+-- the statement that the whole token list spells
 abbrev pub read_statement : List Token → Option Statement
 read_statement ts = whole (statement_at ts)

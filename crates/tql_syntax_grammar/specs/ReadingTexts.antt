@@ -14,7 +14,7 @@ use Rattle.tql_syntax_grammar.specs.ReadingStatements.{read_statement}
 
 -- ---- tokens
 
--- the token in front of these bytes, and those behind it
+-- the token in front of these bytes, and the tokens after it
 abbrev pub with_token : List ℕ → Reading → (List ℕ → Option (List Token)) → Option (List Token)
 with_token bytes None more = None
 with_token bytes (Some r) more = with_front (Some (token_with r.0 (take r.1 bytes))) (more (drop r.1 bytes))
@@ -24,28 +24,28 @@ abbrev pub tokens_here : (List ℕ → Option (List Token)) → List ℕ → Opt
 tokens_here more [] = Some []
 tokens_here more (b ∷ bs) = with_token (b ∷ bs) (first_token (b ∷ bs)) more
 
--- the tokens of some bytes, where they are no more than a number
+-- the tokens of some bytes, if there are at most as many as the number
 abbrev pub tokens_within : ℕ → List ℕ → Option (List Token)
 tokens_within zero bytes = tokens_here (λ left. None) (without_lead false bytes)
 tokens_within (suc n) bytes = tokens_here (tokens_within n) (without_lead false bytes)
 
--- the tokens of a text, where it is tokens
+-- the tokens of a text, if it consists of tokens
 abbrev pub read_tokens : List ℕ → Option (List Token)
 read_tokens text = tokens_within (length text) text
 
 -- ---- senses
 
--- what a statement says that was read: too wide, or what it is
+-- the sense of the statement that was read: too wide, or the statement; without one, not a statement
 abbrev pub sense_of_tree : Option Statement → Sense
 sense_of_tree None = Faulty NotAStatement
 sense_of_tree (Some s) = if is_too_wide s then Faulty TooManyColumnsOrTables else Says s
 
--- what tokens say
+-- the sense of the tokens
 abbrev pub sense_of_tokens : Option (List Token) → Sense
 sense_of_tokens None = Faulty NotAStatement
 sense_of_tokens (Some ts) = if nat_lt 64 (depth ts) then Faulty NestedTooDeep else sense_of_tree (read_statement ts)
 
--- what a piece of a script says, or the first fault of its text
+-- the sense of a piece of a script: its statement, or the first fault of its text
 abbrev pub read_sense : Piece → Sense
 read_sense p =
     if nat_lt 1_048_576 (length p.text) then Faulty StatementTooLong

@@ -1,9 +1,9 @@
--- The law of a text: it spells one statement at most.
+-- The law of a text: it spells at most one statement.
 use Rattle.std.specs.Prelude.{◌≡◌, ℕ, List}
 use Rattle.tql_spec.specs.Syntax as tree
 use Rattle.tql_spec.specs.Run.{IsDeep, IsTextOf}
 
--- the law: a text spells one statement at most, and is then not nested too deep
+-- the law: a text that spells a statement spells no other, and is not nested too deep
 pub record SpellsAlone (text : List ℕ) (s : tree.Statement) : Type 0 where
   pub shallow : ¬ IsDeep text
   pub alone : (t : tree.Statement) → IsTextOf text t → t ≡ s

@@ -1,4 +1,4 @@
--- The test that an operand makes with what stands behind it.
+-- The test that consists of an operand and the part after it.
 use Rattle.tql_spec.specs.Syntax as tree
 use Rattle.tql_syntax_tree.specs.Expressions.{boxed_expr_of}
 use Rattle.tql_syntax_tree.specs.Conditions.{relation_of, marked_of, operand_of}

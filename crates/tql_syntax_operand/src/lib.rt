@@ -1,4 +1,4 @@
-//! Reading periods as operands, and what may stand behind an expression or a period in a test.
+//! Parsing periods as operands, and the tests that may follow an expression or a period.
 #![tactic(auto)]
 
 pub mod operands;

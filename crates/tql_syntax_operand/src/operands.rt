@@ -1,4 +1,4 @@
-//! Reading periods as operands, and what may stand behind an expression or a period in a test.
+//! Parsing periods as operands, and the tests that may follow an expression or a period.
 ghost use Rattle.std.specs.Prelude.{◌≡◌, IfOk, option_map};
 ghost use Rattle.tql_syntax_grammar.specs.Outcome.{Read};
 ghost use Rattle.tql_syntax_grammar.specs.ReadingExpressions as reading;
@@ -18,7 +18,7 @@ use tql_syntax_expr::lists::{Rule, behind_commas};
 use tql_syntax_tree::condition::{Comparison, Marked, Operand, Relation, Test, boxed_test};
 use tql_syntax_tree::expression::{Expr, Named};
 
-/// A comparison, where one is in front.
+/// Parses a comparison operator, if one is next.
 #[tactic(auto, unfolding(tql_syntax_grammar::specs::ReadingExpressions::comparison_at))]
 pub fn comparison(tokens: &mut Cursor<'_, '_>) -> Option<Comparison>
     ensures { reading.comparison_at tokens.old ≡ Read (option_map comparison_of result) tokens.new }
@@ -44,7 +44,7 @@ pub fn comparison(tokens: &mut Cursor<'_, '_>) -> Option<Comparison>
     None
 }
 
-/// What stands behind IMMEDIATELY.
+/// Parses the rest of `IMMEDIATELY`: PRECEDES or SUCCEEDS.
 #[tactic(auto, unfolding(tql_syntax_grammar::specs::ReadingExpressions::immediate_at))]
 fn immediate(tokens: &mut Cursor<'_, '_>) -> Result<Relation, ParseError>
     ensures { Reads relation_of (reading.immediate_at tokens.old) result tokens.new }
@@ -56,7 +56,7 @@ fn immediate(tokens: &mut Cursor<'_, '_>) -> Result<Relation, ParseError>
     Ok(Relation::ImmediatelySucceeds)
 }
 
-/// A relation that is a word, where one is in front.
+/// Parses a relation of periods that is written as words, if one is next.
 #[tactic(auto, unfolding(tql_syntax_grammar::specs::ReadingExpressions::relation_at))]
 fn relation(tokens: &mut Cursor<'_, '_>) -> Result<Option<Relation>, ParseError>
     ensures { Reads (option_map relation_of) (reading.relation_at tokens.old) result tokens.new }
@@ -80,7 +80,7 @@ fn relation(tokens: &mut Cursor<'_, '_>) -> Result<Option<Relation>, ParseError>
     Ok(None)
 }
 
-/// Whether a marked period is in front: PERIOD, SYSTEM_TIME, or a name, a dot and SYSTEM_TIME.
+/// Whether a marked period is next: PERIOD, SYSTEM_TIME, or a name, a dot and SYSTEM_TIME.
 pub fn begins_marked(tokens: &Cursor<'_, '_>) -> bool
     ensures { result ≡ reading.begins_marked tokens.now }
 {
@@ -91,7 +91,7 @@ pub fn begins_marked(tokens: &Cursor<'_, '_>) -> bool
             && tokens.third_is_word("SYSTEM_TIME"))
 }
 
-/// What stands behind PERIOD.
+/// Parses the rest of `PERIOD`: the start and the end in parentheses.
 #[tactic(auto, unfolding(tql_syntax_grammar::specs::ReadingExpressions::ends_over))]
 fn ends<'a>(
     memory: Memory,
@@ -108,7 +108,7 @@ fn ends<'a>(
     Ok(Marked::FromEnds(start, end))
 }
 
-/// The system period of a named table reference.
+/// Parses the system period of a named table reference: `name . SYSTEM_TIME`.
 #[tactic(auto, unfolding(tql_syntax_grammar::specs::ReadingExpressions::qualified_system_at))]
 fn qualified_system<'a>(tokens: &mut Cursor<'_, 'a>) -> Result<Marked<'a>, ParseError>
     ensures { Reads marked_of (reading.qualified_system_at tokens.old) result tokens.new }
@@ -119,7 +119,7 @@ fn qualified_system<'a>(tokens: &mut Cursor<'_, 'a>) -> Result<Marked<'a>, Parse
     Ok(Marked::SystemTime(Some(name)))
 }
 
-/// A marked period.
+/// Parses a marked period.
 #[tactic(auto, unfolding(tql_syntax_grammar::specs::ReadingExpressions::marked_over))]
 pub fn marked<'a>(
     memory: Memory,
@@ -137,7 +137,7 @@ pub fn marked<'a>(
     qualified_system(tokens)
 }
 
-/// A period as an operand.
+/// Parses a period as an operand.
 #[tactic(auto, unfolding(tql_syntax_grammar::specs::ReadingExpressions::operand_over))]
 fn operand<'a>(
     memory: Memory,
@@ -154,7 +154,7 @@ fn operand<'a>(
     Ok(Operand::ByName(name))
 }
 
-/// What stands behind a period in a test.
+/// The part of a test after its period.
 #[derive(Drop)]
 pub enum Tail<'a> {
     Related(Relation, Operand<'a>),
@@ -162,7 +162,7 @@ pub enum Tail<'a> {
     ContainsPoint(Box<Expr<'a>, Memory>),
 }
 
-/// The test of an operand, and what stands behind it.
+/// Builds the test of an operand and the part after it. The only error is a failed allocation.
 pub fn operand_test<'a>(
     memory: Memory,
     left: Operand<'a>,
@@ -178,7 +178,7 @@ pub fn operand_test<'a>(
     boxed_test(memory, test)
 }
 
-/// What stands behind CONTAINS.
+/// Parses the rest of `CONTAINS`: a marked period, or an expression.
 #[tactic(auto, unfolding(tql_syntax_grammar::specs::ReadingExpressions::contained_over))]
 fn contained<'a>(
     memory: Memory,
@@ -196,7 +196,7 @@ fn contained<'a>(
     Ok(Tail::ContainsPoint(point))
 }
 
-/// Behind an operand: a relation and an operand, or CONTAINS and what is contained, where one is in front.
+/// Parses the part of a test after an operand, if it is next: a relation and an operand, or CONTAINS and its argument.
 #[tactic(auto, unfolding(tql_syntax_grammar::specs::ReadingExpressions::related_over))]
 pub fn read_tail<'a>(
     memory: Memory,
@@ -218,7 +218,7 @@ pub fn read_tail<'a>(
     Ok(None)
 }
 
-/// What stands behind IS, which this expression stands before.
+/// Parses the rest of `value IS`: `[NOT] NULL`.
 #[tactic(auto, unfolding(tql_syntax_grammar::specs::ReadingExpressions::null_test_at))]
 pub fn null_test<'a>(
     memory: Memory,
@@ -233,7 +233,7 @@ pub fn null_test<'a>(
     Ok(test)
 }
 
-/// What stands behind BETWEEN, which this expression stands before.
+/// Parses the rest of `value [NOT] BETWEEN`: `low AND high`.
 #[tactic(auto, unfolding(tql_syntax_grammar::specs::ReadingExpressions::between_over))]
 pub fn between<'a>(
     memory: Memory,
@@ -252,7 +252,7 @@ pub fn between<'a>(
     Ok(test)
 }
 
-/// An expression, whose parentheses may go this deep.
+/// The rule for an expression whose parentheses nest at most `depth` deep.
 #[derive(Drop)]
 struct SumRule {
     depth: usize,
@@ -276,7 +276,7 @@ impl<'a> Rule<'a, Memory> for SumRule {
     }
 }
 
-/// What stands behind IN, which this expression stands before.
+/// Parses the rest of `value [NOT] IN`: a list of expressions in parentheses.
 #[tactic(auto, unfolding(tql_syntax_grammar::specs::ReadingExpressions::in_over))]
 pub fn in_list<'a>(
     memory: Memory,
@@ -296,7 +296,7 @@ pub fn in_list<'a>(
     Ok(test)
 }
 
-/// What stands behind NOT, which this expression stands before.
+/// Parses the rest of `value NOT`: a BETWEEN or an IN test.
 #[tactic(auto, unfolding(tql_syntax_grammar::specs::ReadingExpressions::denied_over))]
 pub fn denied<'a>(
     memory: Memory,

@@ -1,4 +1,4 @@
-//! Reading the clauses that statements of several kinds have.
+//! Parsing the clauses that several kinds of statements share.
 ghost use Rattle.std.specs.Prelude.{option_map};
 ghost use Rattle.tql_syntax_grammar.specs.ReadingStatements as reading;
 ghost use Rattle.tql_syntax_expr.specs.Parsing.{Reads};
@@ -11,7 +11,7 @@ use tql_syntax_expr::cursor::{Cursor, ParseError};
 use tql_syntax_tree::condition::Cond;
 use tql_syntax_tree::expression::Name;
 
-/// TIMESTAMP and its quoted text.
+/// Parses a TIMESTAMP literal, and returns its quoted text.
 #[tactic(auto, unfolding(tql_syntax_grammar::specs::ReadingStatements::moment_at))]
 pub fn moment<'a>(tokens: &mut Cursor<'_, 'a>) -> Result<&'a str, ParseError>
     ensures { Reads content_of (reading.moment_at tokens.old) result tokens.new }
@@ -20,7 +20,7 @@ pub fn moment<'a>(tokens: &mut Cursor<'_, 'a>) -> Result<&'a str, ParseError>
     tokens.quote()
 }
 
-/// A WHERE clause, where one is in front.
+/// Parses a WHERE clause, if one is next.
 #[tactic(auto, unfolding(tql_syntax_grammar::specs::ReadingStatements::where_at))]
 pub fn where_clause<'a>(
     memory: Memory,
@@ -35,7 +35,7 @@ pub fn where_clause<'a>(
     Ok(None)
 }
 
-/// The name of a period; SYSTEM_TIME has none.
+/// Parses the name of a period; SYSTEM_TIME is returned as None.
 #[tactic(auto, unfolding(tql_syntax_grammar::specs::ReadingStatements::period_name_at))]
 pub fn period_name<'a>(tokens: &mut Cursor<'_, 'a>) -> Result<Option<Name<'a>>, ParseError>
     ensures { Reads (option_map name_of) (reading.period_name_at tokens.old) result tokens.new }

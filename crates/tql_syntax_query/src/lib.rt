@@ -1,4 +1,4 @@
-//! Reading queries, and the clauses that they share with other statements.
+//! Parsing queries, and the clauses that they share with other statements.
 #![tactic(auto)]
 
 pub mod clauses;

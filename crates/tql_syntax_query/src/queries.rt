@@ -1,4 +1,4 @@
-//! Reading queries.
+//! Parsing queries.
 ghost use Rattle.std.specs.Prelude.{◌≡◌, Bool, List, option_map};
 ghost use Rattle.tql_spec.specs.Syntax as tree;
 ghost use Rattle.tql_syntax_grammar.specs.Outcome.{Read};
@@ -26,7 +26,7 @@ use tql_syntax_tree::statement::{
     SpanTree, Statement, boxed_joined, boxed_query, boxed_reference, boxed_select,
 };
 
-/// What stands behind FROM in a FOR SYSTEM_TIME clause.
+/// Parses the rest of `FROM` in a FOR SYSTEM_TIME clause: `moment TO moment`.
 #[tactic(auto, unfolding(tql_syntax_grammar::specs::ReadingStatements::from_to_at))]
 fn from_to<'a>(tokens: &mut Cursor<'_, 'a>) -> Result<SpanTree<'a>, ParseError>
     ensures { Reads span_of (reading.from_to_at tokens.old) result tokens.new }
@@ -37,7 +37,7 @@ fn from_to<'a>(tokens: &mut Cursor<'_, 'a>) -> Result<SpanTree<'a>, ParseError>
     Ok(SpanTree::FromTo(from, to))
 }
 
-/// What stands behind BETWEEN in a FOR SYSTEM_TIME clause.
+/// Parses the rest of `BETWEEN` in a FOR SYSTEM_TIME clause: `moment AND moment`.
 #[tactic(auto, unfolding(tql_syntax_grammar::specs::ReadingStatements::between_at))]
 fn between<'a>(tokens: &mut Cursor<'_, 'a>) -> Result<SpanTree<'a>, ParseError>
     ensures { Reads span_of (reading.between_at tokens.old) result tokens.new }
@@ -48,7 +48,7 @@ fn between<'a>(tokens: &mut Cursor<'_, 'a>) -> Result<SpanTree<'a>, ParseError>
     Ok(SpanTree::Between(from, to))
 }
 
-/// What stands behind FOR in a table reference.
+/// Parses the rest of `FOR` in a table reference.
 #[tactic(auto, unfolding(tql_syntax_grammar::specs::ReadingStatements::span_behind))]
 fn span_behind<'a>(tokens: &mut Cursor<'_, 'a>) -> Result<SpanTree<'a>, ParseError>
     ensures { Reads span_of (reading.span_behind tokens.old) result tokens.new }
@@ -66,7 +66,7 @@ fn span_behind<'a>(tokens: &mut Cursor<'_, 'a>) -> Result<SpanTree<'a>, ParseErr
     between(tokens)
 }
 
-/// The FOR SYSTEM_TIME clause of a table reference, or none.
+/// Parses the FOR SYSTEM_TIME clause of a table reference, if one is next.
 #[tactic(auto, unfolding(tql_syntax_grammar::specs::ReadingStatements::span_at))]
 fn span<'a>(tokens: &mut Cursor<'_, 'a>) -> Result<SpanTree<'a>, ParseError>
     ensures { Reads span_of (reading.span_at tokens.old) result tokens.new }
@@ -77,7 +77,7 @@ fn span<'a>(tokens: &mut Cursor<'_, 'a>) -> Result<SpanTree<'a>, ParseError>
     Ok(SpanTree::None)
 }
 
-/// The name that a table reference or an item is given, with AS or without.
+/// Parses the alias of a table reference or an item, with or without AS, if one is next.
 #[tactic(auto, unfolding(tql_syntax_grammar::specs::ReadingStatements::alias_at))]
 fn alias<'a>(tokens: &mut Cursor<'_, 'a>) -> Result<Option<Name<'a>>, ParseError>
     ensures { Reads (option_map name_of) (reading.alias_at tokens.old) result tokens.new }
@@ -93,7 +93,7 @@ fn alias<'a>(tokens: &mut Cursor<'_, 'a>) -> Result<Option<Name<'a>>, ParseError
     Ok(None)
 }
 
-/// A table reference.
+/// Parses a table reference.
 #[tactic(auto, unfolding(tql_syntax_grammar::specs::ReadingStatements::ref_at))]
 fn reference<'a>(tokens: &mut Cursor<'_, 'a>) -> Result<RefTree<'a>, ParseError>
     ensures { Reads ref_of (reading.ref_at tokens.old) result tokens.new }
@@ -104,7 +104,7 @@ fn reference<'a>(tokens: &mut Cursor<'_, 'a>) -> Result<RefTree<'a>, ParseError>
     Ok(RefTree { table, span, alias })
 }
 
-/// What stands behind JOIN in an inner or an outer join.
+/// Parses the rest of `JOIN` in an inner or outer join: a table reference and its ON condition.
 #[tactic(auto, unfolding(tql_syntax_grammar::specs::ReadingStatements::joined_on_at))]
 fn joined_on<'a>(
     memory: Memory,
@@ -123,7 +123,7 @@ fn joined_on<'a>(
     Ok(boxed_joined(memory, joined)?)
 }
 
-/// What stands behind INNER.
+/// Parses the rest of `INNER`.
 #[tactic(auto, unfolding(tql_syntax_grammar::specs::ReadingStatements::inner_at))]
 fn inner<'a>(
     memory: Memory,
@@ -135,7 +135,7 @@ fn inner<'a>(
     joined_on(memory, tokens)
 }
 
-/// What stands behind LEFT.
+/// Parses the rest of `LEFT`.
 #[tactic(auto, unfolding(tql_syntax_grammar::specs::ReadingStatements::left_at))]
 fn left<'a>(
     memory: Memory,
@@ -148,7 +148,7 @@ fn left<'a>(
     joined_on(memory, tokens)
 }
 
-/// What stands behind CROSS.
+/// Parses the rest of `CROSS`.
 #[tactic(auto, unfolding(tql_syntax_grammar::specs::ReadingStatements::cross_at))]
 fn cross<'a>(
     memory: Memory,
@@ -161,7 +161,7 @@ fn cross<'a>(
     Ok(boxed_reference(memory, reference)?)
 }
 
-/// A join, where one is in front.
+/// The step that parses a join, if one is next.
 struct JoinStep;
 
 impl<'a> Step<'a, Memory> for JoinStep {
@@ -199,7 +199,7 @@ impl<'a> Step<'a, Memory> for JoinStep {
     }
 }
 
-/// A chain of FROM.
+/// The rule for a chain of joins in FROM.
 struct ChainRule;
 
 impl<'a> Rule<'a, Memory> for ChainRule {
@@ -223,7 +223,7 @@ impl<'a> Rule<'a, Memory> for ChainRule {
     }
 }
 
-/// An item of the select list.
+/// The rule for an item of the select list.
 struct ItemRule;
 
 impl<'a> Rule<'a, Memory> for ItemRule {
@@ -243,7 +243,7 @@ impl<'a> Rule<'a, Memory> for ItemRule {
     }
 }
 
-/// The items of the select list.
+/// Parses the items of a select list.
 #[tactic(auto, unfolding(tql_syntax_grammar::specs::ReadingStatements::items_behind))]
 fn items_behind<'a>(memory: Memory, tokens: &mut Cursor<'_, 'a>) -> Result<Items<'a>, ParseError>
     ensures { Reads items_of (reading.items_behind tokens.old) result tokens.new }
@@ -253,7 +253,7 @@ fn items_behind<'a>(memory: Memory, tokens: &mut Cursor<'_, 'a>) -> Result<Items
     Ok(Items::These(first, more))
 }
 
-/// The select list.
+/// Parses a select list: `*`, or items.
 #[tactic(auto, unfolding(tql_syntax_grammar::specs::ReadingStatements::items_at))]
 fn items<'a>(memory: Memory, tokens: &mut Cursor<'_, 'a>) -> Result<Items<'a>, ParseError>
     ensures { Reads items_of (reading.items_at tokens.old) result tokens.new }
@@ -264,7 +264,7 @@ fn items<'a>(memory: Memory, tokens: &mut Cursor<'_, 'a>) -> Result<Items<'a>, P
     items_behind(memory, tokens)
 }
 
-/// Whether DISTINCT is in front; goes past it, or past ALL.
+/// Consumes DISTINCT or ALL, if one is next. Returns whether it was DISTINCT.
 #[tactic(auto, unfolding(tql_syntax_grammar::specs::ReadingStatements::distinct_at))]
 fn distinct(tokens: &mut Cursor<'_, '_>) -> bool
     ensures { reading.distinct_at tokens.old ≡ Read result tokens.new }
@@ -276,7 +276,7 @@ fn distinct(tokens: &mut Cursor<'_, '_>) -> bool
     false
 }
 
-/// A HAVING clause, where one is in front.
+/// Parses a HAVING clause, if one is next.
 #[tactic(auto, unfolding(tql_syntax_grammar::specs::ReadingStatements::having_at))]
 fn having_clause<'a>(
     memory: Memory,
@@ -291,7 +291,7 @@ fn having_clause<'a>(
     Ok(None)
 }
 
-/// A column or a period.
+/// The rule for a reference to a column or a period.
 struct NamedRule;
 
 impl<'a> Rule<'a, Memory> for NamedRule {
@@ -308,7 +308,7 @@ impl<'a> Rule<'a, Memory> for NamedRule {
     }
 }
 
-/// A GROUP BY clause; no columns where none is in front.
+/// Parses a GROUP BY clause, and returns its columns; none if the clause is absent.
 #[tactic(auto, unfolding(tql_syntax_grammar::specs::ReadingStatements::group_by_at))]
 fn group_by<'a>(
     memory: Memory,
@@ -323,7 +323,7 @@ fn group_by<'a>(
     Ok(Vec::new(memory))
 }
 
-/// What stands behind the FROM clause of a select.
+/// The clauses of a select after FROM.
 #[derive(Drop)]
 struct SelectEnd<'a> {
     filter: Option<Box<Cond<'a>, Memory>>,
@@ -331,7 +331,7 @@ struct SelectEnd<'a> {
     having: Option<Box<Cond<'a>, Memory>>,
 }
 
-/// What stands behind the FROM clause of a select.
+/// Parses the clauses of a select after FROM: WHERE, GROUP BY and HAVING.
 #[tactic(auto, unfolding(tql_syntax_grammar::specs::ReadingStatements::select_end))]
 fn select_end<'a>(memory: Memory, tokens: &mut Cursor<'_, 'a>) -> Result<SelectEnd<'a>, ParseError>
     ensures { (d : Bool) → (is : tree.Items) → (c : tree.ChainTree) → (cs : List tree.ChainTree)
@@ -347,7 +347,7 @@ fn select_end<'a>(memory: Memory, tokens: &mut Cursor<'_, 'a>) -> Result<SelectE
     })
 }
 
-/// What stands behind FROM in a select.
+/// Parses the rest of `FROM` in a select.
 #[tactic(auto, unfolding(crate::specs::SelectEnds::select_from))]
 fn select_from<'a>(
     memory: Memory,
@@ -376,7 +376,7 @@ fn select_from<'a>(
     Ok(boxed_select(memory, select)?)
 }
 
-/// What stands behind SELECT, but ORDER BY.
+/// Parses the rest of `SELECT`, without ORDER BY.
 #[tactic(auto, unfolding(tql_syntax_grammar::specs::ReadingStatements::select_at, crate::specs::SelectEnds::select_from))]
 pub fn select<'a>(
     memory: Memory,
@@ -390,7 +390,7 @@ pub fn select<'a>(
     select_from(memory, tokens, is_distinct, items)
 }
 
-/// A position by its digits, or a heading.
+/// Parses a position or a heading.
 #[tactic(auto, unfolding(tql_syntax_grammar::specs::ReadingStatements::key_name_at))]
 fn key_name<'a>(tokens: &mut Cursor<'_, 'a>) -> Result<KeyName<'a>, ParseError>
     ensures { Reads key_name_of (reading.key_name_at tokens.old) result tokens.new }
@@ -402,7 +402,7 @@ fn key_name<'a>(tokens: &mut Cursor<'_, 'a>) -> Result<KeyName<'a>, ParseError>
     Ok(KeyName::Heading(name))
 }
 
-/// Whether DESC is in front; goes past it, or past ASC.
+/// Consumes DESC or ASC, if one is next. Returns whether it was DESC.
 #[tactic(auto, unfolding(tql_syntax_grammar::specs::ReadingStatements::direction_at))]
 fn direction(tokens: &mut Cursor<'_, '_>) -> bool
     ensures { reading.direction_at tokens.old ≡ Read result tokens.new }
@@ -414,7 +414,7 @@ fn direction(tokens: &mut Cursor<'_, '_>) -> bool
     false
 }
 
-/// A key of ORDER BY.
+/// The rule for a key of ORDER BY.
 struct OrderKeyRule;
 
 impl<'a> Rule<'a, Memory> for OrderKeyRule {
@@ -438,7 +438,7 @@ impl<'a> Rule<'a, Memory> for OrderKeyRule {
     }
 }
 
-/// An ORDER BY clause; no keys where none is in front.
+/// Parses an ORDER BY clause, and returns its keys; none if the clause is absent.
 #[tactic(auto, unfolding(tql_syntax_grammar::specs::ReadingStatements::order_by_at))]
 fn order_by<'a>(
     memory: Memory,
@@ -453,7 +453,7 @@ fn order_by<'a>(
     Ok(Vec::new(memory))
 }
 
-/// What stands behind SELECT in a query.
+/// Parses the rest of `SELECT` in a query, with ORDER BY.
 #[tactic(auto, unfolding(tql_syntax_grammar::specs::ReadingStatements::query_at))]
 pub fn query<'a>(memory: Memory, tokens: &mut Cursor<'_, 'a>) -> Result<Statement<'a>, ParseError>
     ensures { Reads statement_of (reading.query_at tokens.old) result tokens.new }
@@ -465,7 +465,7 @@ pub fn query<'a>(memory: Memory, tokens: &mut Cursor<'_, 'a>) -> Result<Statemen
     Ok(Statement::Query(query))
 }
 
-/// What stands behind READ: a reader's name, and a query.
+/// Parses the rest of `READ`: a reader's name, and a query.
 #[tactic(auto, unfolding(tql_syntax_grammar::specs::ReadingStatements::read_at))]
 pub fn read_query<'a>(
     memory: Memory,

@@ -1,4 +1,4 @@
-//! Reading INSERT, UPDATE and DELETE.
+//! Parsing INSERT, UPDATE and DELETE.
 ghost use Rattle.std.specs.Prelude.{List, option_map};
 ghost use Rattle.tql_syntax_grammar.specs.Outcome.{name_at};
 ghost use Rattle.tql_syntax_grammar.specs.ReadingStatements as reading;
@@ -24,7 +24,7 @@ use tql_syntax_tree::statement::{
     boxed_delete, boxed_insert, boxed_update,
 };
 
-/// A cell of VALUES or SET.
+/// The rule for a cell of VALUES or SET.
 struct CellRule;
 
 impl<'a> Rule<'a, Memory> for CellRule {
@@ -50,7 +50,7 @@ impl<'a> Rule<'a, Memory> for CellRule {
     }
 }
 
-/// A tuple of VALUES.
+/// The rule for a tuple of VALUES.
 struct TupleRule;
 
 impl<'a> Rule<'a, Memory> for TupleRule {
@@ -72,7 +72,7 @@ impl<'a> Rule<'a, Memory> for TupleRule {
     }
 }
 
-/// A point of a portion: a DATE or a TIMESTAMP literal.
+/// Parses a point of a portion: a DATE or a TIMESTAMP literal.
 #[tactic(auto, unfolding(tql_syntax_grammar::specs::ReadingStatements::point_at))]
 fn point<'a>(tokens: &mut Cursor<'_, 'a>) -> Result<PointTree<'a>, ParseError>
     ensures { Reads point_of (reading.point_at tokens.old) result tokens.new }
@@ -85,7 +85,7 @@ fn point<'a>(tokens: &mut Cursor<'_, 'a>) -> Result<PointTree<'a>, ParseError>
     Ok(PointTree::Moment(text))
 }
 
-/// What stands behind FOR in an UPDATE or DELETE.
+/// Parses the rest of `FOR` in an UPDATE or DELETE.
 #[tactic(auto, unfolding(tql_syntax_grammar::specs::ReadingStatements::portion_behind))]
 fn portion_behind<'a>(tokens: &mut Cursor<'_, 'a>) -> Result<PortionTree<'a>, ParseError>
     ensures { Reads portion_of (reading.portion_behind tokens.old) result tokens.new }
@@ -100,7 +100,7 @@ fn portion_behind<'a>(tokens: &mut Cursor<'_, 'a>) -> Result<PortionTree<'a>, Pa
     Ok(PortionTree { period, from, to })
 }
 
-/// A FOR PORTION OF clause, where one is in front.
+/// Parses a FOR PORTION OF clause, if one is next.
 #[tactic(auto, unfolding(tql_syntax_grammar::specs::ReadingStatements::portion_at))]
 fn portion<'a>(tokens: &mut Cursor<'_, 'a>) -> Result<Option<PortionTree<'a>>, ParseError>
     ensures { Reads (option_map portion_of) (reading.portion_at tokens.old) result tokens.new }
@@ -112,7 +112,7 @@ fn portion<'a>(tokens: &mut Cursor<'_, 'a>) -> Result<Option<PortionTree<'a>>, P
     Ok(None)
 }
 
-/// An assignment of SET.
+/// The rule for an assignment of SET.
 struct AssignmentRule;
 
 impl<'a> Rule<'a, Memory> for AssignmentRule {
@@ -133,7 +133,7 @@ impl<'a> Rule<'a, Memory> for AssignmentRule {
     }
 }
 
-/// What stands behind the assignments of UPDATE.
+/// Parses the rest of UPDATE after its assignments.
 #[tactic(auto, unfolding(crate::specs::ChangeEnds::update_end))]
 fn update_end<'a>(
     memory: Memory,
@@ -159,7 +159,7 @@ fn update_end<'a>(
     Ok(Statement::Update(update))
 }
 
-/// What stands behind the first assignment of UPDATE.
+/// Parses the rest of UPDATE after its first assignment.
 #[tactic(auto, unfolding(crate::specs::ChangeEnds::sets_end))]
 fn sets_end<'a>(
     memory: Memory,
@@ -176,7 +176,7 @@ fn sets_end<'a>(
     update_end(memory, tokens, table, portion, first, more)
 }
 
-/// What stands behind UPDATE.
+/// Parses the rest of `UPDATE`.
 #[tactic(auto, unfolding(tql_syntax_grammar::specs::ReadingStatements::update_at, crate::specs::ChangeEnds::sets_end, crate::specs::ChangeEnds::update_end))]
 pub fn update<'a>(memory: Memory, tokens: &mut Cursor<'_, 'a>) -> Result<Statement<'a>, ParseError>
     ensures { Reads statement_of (reading.update_at tokens.old) result tokens.new }
@@ -188,7 +188,7 @@ pub fn update<'a>(memory: Memory, tokens: &mut Cursor<'_, 'a>) -> Result<Stateme
     sets_end(memory, tokens, table, portion, first)
 }
 
-/// What stands behind the table and the portion of DELETE.
+/// Parses the rest of DELETE after its table and portion.
 #[tactic(auto, unfolding(crate::specs::ChangeEnds::delete_end))]
 fn delete_end<'a>(
     memory: Memory,
@@ -209,7 +209,7 @@ fn delete_end<'a>(
     Ok(Statement::Delete(delete))
 }
 
-/// What stands behind DELETE.
+/// Parses the rest of `DELETE`.
 #[tactic(auto, unfolding(tql_syntax_grammar::specs::ReadingStatements::delete_at, crate::specs::ChangeEnds::delete_end))]
 pub fn delete<'a>(memory: Memory, tokens: &mut Cursor<'_, 'a>) -> Result<Statement<'a>, ParseError>
     ensures { Reads statement_of (reading.delete_at tokens.old) result tokens.new }
@@ -220,7 +220,7 @@ pub fn delete<'a>(memory: Memory, tokens: &mut Cursor<'_, 'a>) -> Result<Stateme
     delete_end(memory, tokens, table, portion)
 }
 
-/// A name.
+/// The rule for a name.
 struct NameRule;
 
 impl<'a> Rule<'a, Memory> for NameRule {
@@ -237,7 +237,7 @@ impl<'a> Rule<'a, Memory> for NameRule {
     }
 }
 
-/// The column list of INSERT; no columns where none is in front.
+/// Parses the column list of INSERT, and returns its columns; none if the list is absent.
 #[tactic(auto, unfolding(tql_syntax_grammar::specs::ReadingStatements::column_list_at))]
 fn column_list<'a>(
     memory: Memory,
@@ -253,7 +253,7 @@ fn column_list<'a>(
     Ok(Vec::new(memory))
 }
 
-/// What stands behind VALUES in an INSERT.
+/// Parses the rest of `VALUES` in an INSERT.
 #[tactic(auto, unfolding(tql_syntax_grammar::specs::ReadingStatements::values_at))]
 fn values<'a>(memory: Memory, tokens: &mut Cursor<'_, 'a>) -> Result<RowSource<'a>, ParseError>
     ensures { (n : definition.Name) → (cs : List definition.Name)
@@ -264,7 +264,7 @@ fn values<'a>(memory: Memory, tokens: &mut Cursor<'_, 'a>) -> Result<RowSource<'
     Ok(RowSource::Values(first, more))
 }
 
-/// Where the rows of INSERT come from: VALUES, or a select.
+/// Parses the source of the rows of INSERT: VALUES, or a select.
 #[tactic(auto, unfolding(crate::specs::ChangeEnds::rows_at))]
 fn rows<'a>(memory: Memory, tokens: &mut Cursor<'_, 'a>) -> Result<RowSource<'a>, ParseError>
     ensures { (n : definition.Name) → (cs : List definition.Name)
@@ -278,7 +278,7 @@ fn rows<'a>(memory: Memory, tokens: &mut Cursor<'_, 'a>) -> Result<RowSource<'a>
     Ok(RowSource::Select(select))
 }
 
-/// What stands behind the columns of INSERT.
+/// Parses the rest of INSERT after its column list.
 fn insert_end<'a>(
     memory: Memory,
     tokens: &mut Cursor<'_, 'a>,
@@ -298,7 +298,7 @@ fn insert_end<'a>(
     Ok(Statement::Insert(insert))
 }
 
-/// What stands behind INSERT.
+/// Parses the rest of `INSERT`.
 #[tactic(auto, unfolding(tql_syntax_grammar::specs::ReadingStatements::insert_at, crate::specs::ChangeEnds::rows_at))]
 pub fn insert<'a>(memory: Memory, tokens: &mut Cursor<'_, 'a>) -> Result<Statement<'a>, ParseError>
     ensures { Reads statement_of (reading.insert_at tokens.old) result tokens.new }

@@ -1,4 +1,4 @@
-//! Reading CREATE and DROP.
+//! Parsing CREATE TABLE and DROP TABLE.
 ghost use Rattle.std.specs.Prelude.{◌≡◌, option_map};
 ghost use Rattle.tql_syntax_grammar.specs.Outcome.{into, next};
 ghost use Rattle.tql_syntax_grammar.specs.ReadingStatements as reading;
@@ -23,7 +23,7 @@ use tql_syntax_tree::statement::{
     RefList, Statement, TypeName, boxed_constraint, boxed_create,
 };
 
-/// `( number )`: the digits.
+/// Parses `( number )`, and returns the digits.
 #[tactic(auto, unfolding(tql_syntax_grammar::specs::ReadingStatements::size_at))]
 fn size<'a>(tokens: &mut Cursor<'_, 'a>) -> Result<&'a str, ParseError>
     ensures { Reads digits_of (reading.size_at tokens.old) result tokens.new }
@@ -34,7 +34,7 @@ fn size<'a>(tokens: &mut Cursor<'_, 'a>) -> Result<&'a str, ParseError>
     Ok(digits)
 }
 
-/// The digits of `( number )`, where it is in front.
+/// Parses `( number )` if `(` is next, and returns the digits.
 #[tactic(auto, unfolding(tql_syntax_grammar::specs::ReadingStatements::precision_at))]
 fn precision<'a>(tokens: &mut Cursor<'_, 'a>) -> Result<Option<&'a str>, ParseError>
     ensures { Reads (option_map digits_of) (reading.precision_at tokens.old) result tokens.new }
@@ -46,7 +46,7 @@ fn precision<'a>(tokens: &mut Cursor<'_, 'a>) -> Result<Option<&'a str>, ParseEr
     Ok(None)
 }
 
-/// WITHOUT TIME ZONE, where it is in front.
+/// Parses WITHOUT TIME ZONE if WITHOUT is next.
 #[tactic(auto, unfolding(tql_syntax_grammar::specs::ReadingStatements::zone_at))]
 fn zone(tokens: &mut Cursor<'_, '_>) -> Result<(), ParseError>
     ensures { Reads nothing (reading.zone_at tokens.old) result tokens.new }
@@ -58,7 +58,7 @@ fn zone(tokens: &mut Cursor<'_, '_>) -> Result<(), ParseError>
     Ok(())
 }
 
-/// What stands behind TIMESTAMP in a type.
+/// Parses the rest of `TIMESTAMP` in a type.
 #[tactic(auto, unfolding(tql_syntax_grammar::specs::ReadingStatements::timestamp_type_at))]
 fn timestamp_type<'a>(tokens: &mut Cursor<'_, 'a>) -> Result<TypeName<'a>, ParseError>
     ensures { Reads type_of (reading.timestamp_type_at tokens.old) result tokens.new }
@@ -68,7 +68,7 @@ fn timestamp_type<'a>(tokens: &mut Cursor<'_, 'a>) -> Result<TypeName<'a>, Parse
     Ok(TypeName::Timestamp(precision))
 }
 
-/// A type.
+/// Parses a type.
 #[tactic(auto, unfolding(tql_syntax_grammar::specs::ReadingStatements::type_at))]
 fn type_name<'a>(tokens: &mut Cursor<'_, 'a>) -> Result<TypeName<'a>, ParseError>
     ensures { Reads type_of (reading.type_at tokens.old) result tokens.new }
@@ -93,7 +93,7 @@ fn type_name<'a>(tokens: &mut Cursor<'_, 'a>) -> Result<TypeName<'a>, ParseError
     timestamp_type(tokens)
 }
 
-/// Whether NOT NULL is in front; goes past it.
+/// Parses NOT NULL if NOT is next. Returns whether it was.
 #[tactic(auto, unfolding(tql_syntax_grammar::specs::ReadingStatements::not_null_at))]
 fn not_null(tokens: &mut Cursor<'_, '_>) -> Result<bool, ParseError>
     ensures { Reads itself (reading.not_null_at tokens.old) result tokens.new }
@@ -105,7 +105,7 @@ fn not_null(tokens: &mut Cursor<'_, '_>) -> Result<bool, ParseError>
     Ok(false)
 }
 
-/// What stands behind GENERATED.
+/// Parses the rest of `GENERATED`: ALWAYS AS ROW, and START or END.
 #[tactic(auto, unfolding(tql_syntax_grammar::specs::ReadingStatements::generated_at))]
 fn generated(tokens: &mut Cursor<'_, '_>) -> Result<Generated, ParseError>
     ensures { Reads generated_of (reading.generated_at tokens.old) result tokens.new }
@@ -120,7 +120,7 @@ fn generated(tokens: &mut Cursor<'_, '_>) -> Result<Generated, ParseError>
     Ok(Generated::RowEnd)
 }
 
-/// A column. NOT NULL may stand on either side of GENERATED.
+/// Parses a column. NOT NULL may come before or after GENERATED.
 #[tactic(auto, unfolding(tql_syntax_grammar::specs::ReadingStatements::column_at))]
 fn column<'a>(tokens: &mut Cursor<'_, 'a>) -> Result<Element<'a>, ParseError>
     ensures { Reads element_of (reading.column_at tokens.old) result tokens.new }
@@ -141,7 +141,7 @@ fn column<'a>(tokens: &mut Cursor<'_, 'a>) -> Result<Element<'a>, ParseError>
     }))
 }
 
-/// What stands behind PERIOD.
+/// Parses the rest of `PERIOD`.
 #[tactic(auto, unfolding(tql_syntax_grammar::specs::ReadingStatements::period_at))]
 fn period<'a>(tokens: &mut Cursor<'_, 'a>) -> Result<Element<'a>, ParseError>
     ensures { Reads element_of (reading.period_at tokens.old) result tokens.new }
@@ -156,7 +156,7 @@ fn period<'a>(tokens: &mut Cursor<'_, 'a>) -> Result<Element<'a>, ParseError>
     Ok(Element::Period(PeriodTree { name, start, end }))
 }
 
-/// The next column of a key, where a comma is in front and no period of the key behind it.
+/// The step that parses a comma and a column of a key, if a comma is next and the key's period does not follow it.
 struct KeyColumnStep;
 
 impl<'a> Step<'a, Memory> for KeyColumnStep {
@@ -185,7 +185,7 @@ impl<'a> Step<'a, Memory> for KeyColumnStep {
     }
 }
 
-/// A comma and `name WITHOUT OVERLAPS`, where a comma is in front.
+/// Parses a comma and `name WITHOUT OVERLAPS`, if a comma is next.
 #[tactic(auto, unfolding(tql_syntax_grammar::specs::ReadingStatements::key_period_at))]
 fn next_key_period<'a>(tokens: &mut Cursor<'_, 'a>) -> Result<Option<Name<'a>>, ParseError>
     ensures { Reads (option_map name_of) (next reading.key_period_at tokens.old) result tokens.new }
@@ -199,7 +199,7 @@ fn next_key_period<'a>(tokens: &mut Cursor<'_, 'a>) -> Result<Option<Name<'a>>, 
     Ok(Some(name))
 }
 
-/// What stands behind PRIMARY KEY or UNIQUE.
+/// Parses the rest of `PRIMARY KEY` or `UNIQUE`.
 #[tactic(auto, unfolding(tql_syntax_grammar::specs::ReadingStatements::key_at))]
 fn key<'a>(
     memory: Memory,
@@ -221,7 +221,7 @@ fn key<'a>(
     }))
 }
 
-/// The next column of a reference, where a comma is in front and no period of the reference behind it.
+/// The step that parses a comma and a column of a foreign key's list, if a comma is next and PERIOD does not follow it.
 struct ReferenceColumnStep;
 
 impl<'a> Step<'a, Memory> for ReferenceColumnStep {
@@ -250,7 +250,7 @@ impl<'a> Step<'a, Memory> for ReferenceColumnStep {
     }
 }
 
-/// A comma and `PERIOD name`, where a comma is in front.
+/// Parses a comma and `PERIOD name`, if a comma is next.
 #[tactic(auto, unfolding(tql_syntax_grammar::specs::ReadingStatements::reference_period_at))]
 fn next_reference_period<'a>(tokens: &mut Cursor<'_, 'a>) -> Result<Option<Name<'a>>, ParseError>
     ensures { Reads (option_map name_of) (next reading.reference_period_at tokens.old) result tokens.new }
@@ -263,7 +263,7 @@ fn next_reference_period<'a>(tokens: &mut Cursor<'_, 'a>) -> Result<Option<Name<
     Ok(Some(name))
 }
 
-/// The list of a reference, in its parentheses.
+/// Parses a column list of a foreign key, in parentheses.
 #[tactic(auto, unfolding(tql_syntax_grammar::specs::ReadingStatements::reflist_at))]
 fn reflist<'a>(memory: Memory, tokens: &mut Cursor<'_, 'a>) -> Result<RefList<'a>, ParseError>
     ensures { Reads reflist_of (reading.reflist_at tokens.old) result tokens.new }
@@ -280,7 +280,7 @@ fn reflist<'a>(memory: Memory, tokens: &mut Cursor<'_, 'a>) -> Result<RefList<'a
     })
 }
 
-/// What stands behind ON in a reference: NO ACTION, for DELETE or UPDATE.
+/// Parses the rest of `ON` in a foreign key: DELETE or UPDATE, and NO ACTION.
 #[tactic(auto, unfolding(tql_syntax_grammar::specs::ReadingStatements::no_action_at))]
 fn no_action(tokens: &mut Cursor<'_, '_>) -> Result<(), ParseError>
     ensures { Reads nothing (reading.no_action_at tokens.old) result tokens.new }
@@ -292,7 +292,7 @@ fn no_action(tokens: &mut Cursor<'_, '_>) -> Result<(), ParseError>
     tokens.expect_word("ACTION")
 }
 
-/// Any number of ON .. NO ACTION.
+/// Parses any number of ON .. NO ACTION.
 fn no_actions(tokens: &mut Cursor<'_, '_>) -> Result<(), ParseError>
     ensures { Reads nothing (reading.no_actions tokens.old) result tokens.new }
 {
@@ -305,7 +305,7 @@ fn no_actions(tokens: &mut Cursor<'_, '_>) -> Result<(), ParseError>
     Ok(())
 }
 
-/// What stands behind FOREIGN.
+/// Parses the rest of `FOREIGN`.
 #[tactic(auto, unfolding(tql_syntax_grammar::specs::ReadingStatements::foreign_at))]
 fn foreign<'a>(memory: Memory, tokens: &mut Cursor<'_, 'a>) -> Result<Constraint<'a>, ParseError>
     ensures { Reads constraint_of (reading.foreign_at tokens.old) result tokens.new }
@@ -323,7 +323,7 @@ fn foreign<'a>(memory: Memory, tokens: &mut Cursor<'_, 'a>) -> Result<Constraint
     }))
 }
 
-/// What stands behind CHECK.
+/// Parses the rest of `CHECK`.
 #[tactic(auto, unfolding(tql_syntax_grammar::specs::ReadingStatements::check_at))]
 fn check<'a>(memory: Memory, tokens: &mut Cursor<'_, 'a>) -> Result<Constraint<'a>, ParseError>
     ensures { Reads constraint_of (reading.check_at tokens.old) result tokens.new }
@@ -335,7 +335,7 @@ fn check<'a>(memory: Memory, tokens: &mut Cursor<'_, 'a>) -> Result<Constraint<'
     Ok(check)
 }
 
-/// A constraint without its name.
+/// Parses a constraint without its name.
 #[tactic(auto, unfolding(tql_syntax_grammar::specs::ReadingStatements::constraint_at))]
 fn constraint<'a>(memory: Memory, tokens: &mut Cursor<'_, 'a>) -> Result<Constraint<'a>, ParseError>
     ensures { Reads constraint_of (reading.constraint_at tokens.old) result tokens.new }
@@ -354,7 +354,7 @@ fn constraint<'a>(memory: Memory, tokens: &mut Cursor<'_, 'a>) -> Result<Constra
     check(memory, tokens)
 }
 
-/// A constraint without its name, in a box.
+/// Parses a constraint without its name, and boxes it.
 fn unnamed_constraint<'a>(
     memory: Memory,
     tokens: &mut Cursor<'_, 'a>,
@@ -365,7 +365,7 @@ fn unnamed_constraint<'a>(
     Ok(boxed_constraint(memory, constraint)?)
 }
 
-/// What stands behind CONSTRAINT.
+/// Parses the rest of `CONSTRAINT`: a name and the constraint.
 #[tactic(auto, unfolding(tql_syntax_grammar::specs::ReadingStatements::named_constraint_at))]
 fn named_constraint<'a>(
     memory: Memory,
@@ -379,7 +379,7 @@ fn named_constraint<'a>(
     Ok(Element::Constraint(Some(name), constraint))
 }
 
-/// Whether a constraint without a name is in front.
+/// Whether a constraint without a name is next.
 fn begins_constraint(tokens: &Cursor<'_, '_>) -> bool
     ensures { result ≡ reading.begins_constraint tokens.now }
 {
@@ -389,7 +389,7 @@ fn begins_constraint(tokens: &Cursor<'_, '_>) -> bool
         || tokens.begins_word("CHECK")
 }
 
-/// A constraint without a name, or a column.
+/// Parses a constraint without a name, or a column.
 fn constraint_or_column<'a>(
     memory: Memory,
     tokens: &mut Cursor<'_, 'a>,
@@ -403,7 +403,7 @@ fn constraint_or_column<'a>(
     column(tokens)
 }
 
-/// An element of CREATE.
+/// The rule for an element of CREATE.
 struct ElementRule;
 
 impl<'a> Rule<'a, Memory> for ElementRule {
@@ -427,7 +427,7 @@ impl<'a> Rule<'a, Memory> for ElementRule {
     }
 }
 
-/// Whether WITH SYSTEM VERSIONING is in front; goes past it.
+/// Parses WITH SYSTEM VERSIONING if WITH is next. Returns whether it was.
 #[tactic(auto, unfolding(tql_syntax_grammar::specs::ReadingStatements::versioning_at))]
 fn versioning(tokens: &mut Cursor<'_, '_>) -> Result<bool, ParseError>
     ensures { Reads itself (reading.versioning_at tokens.old) result tokens.new }
@@ -440,7 +440,7 @@ fn versioning(tokens: &mut Cursor<'_, '_>) -> Result<bool, ParseError>
     Ok(false)
 }
 
-/// What stands behind the elements of CREATE.
+/// Parses the rest of CREATE after its elements.
 #[tactic(auto, unfolding(crate::specs::CreateEnds::create_end))]
 fn create_end<'a>(
     memory: Memory,
@@ -464,7 +464,7 @@ fn create_end<'a>(
     Ok(Statement::Create(create))
 }
 
-/// What stands behind the first element of CREATE.
+/// Parses the rest of CREATE after its first element.
 #[tactic(auto, unfolding(crate::specs::CreateEnds::elements_end))]
 fn elements_end<'a>(
     memory: Memory,
@@ -480,7 +480,7 @@ fn elements_end<'a>(
     create_end(memory, tokens, table, first, more)
 }
 
-/// What stands behind CREATE.
+/// Parses the rest of `CREATE`.
 #[tactic(auto, unfolding(tql_syntax_grammar::specs::ReadingStatements::create_at, crate::specs::CreateEnds::elements_end, crate::specs::CreateEnds::create_end))]
 pub fn create<'a>(memory: Memory, tokens: &mut Cursor<'_, 'a>) -> Result<Statement<'a>, ParseError>
     ensures { Reads statement_of (reading.create_at tokens.old) result tokens.new }
@@ -492,7 +492,7 @@ pub fn create<'a>(memory: Memory, tokens: &mut Cursor<'_, 'a>) -> Result<Stateme
     elements_end(memory, tokens, table, first)
 }
 
-/// What stands behind DROP.
+/// Parses the rest of `DROP`.
 #[tactic(auto, unfolding(tql_syntax_grammar::specs::ReadingStatements::drop_at))]
 pub fn drop_table<'a>(tokens: &mut Cursor<'_, 'a>) -> Result<Statement<'a>, ParseError>
     ensures { Reads statement_of (reading.drop_at tokens.old) result tokens.new }

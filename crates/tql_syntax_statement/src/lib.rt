@@ -1,4 +1,4 @@
-//! Reading CREATE TABLE, DROP TABLE, INSERT, UPDATE and DELETE.
+//! Parsing CREATE TABLE, DROP TABLE, INSERT, UPDATE and DELETE.
 #![tactic(auto)]
 
 pub mod changes;

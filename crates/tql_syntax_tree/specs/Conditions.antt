@@ -1,4 +1,4 @@
--- The pure trees that the code's conditions stand for.
+-- The pure trees that the code's conditions represent.
 use Rattle.std.specs.Prelude.{Bool, true, false, List, map, Option, option_map, Box, Vec}
 use Rattle.tql_spec.specs.Datum as datum
 use Rattle.tql_spec.specs.Period as period
@@ -49,7 +49,7 @@ abbrev pub operand_of : {A : Type 0} → OperandIn A → tree.Operand
 operand_of (operand.ByMark m) = tree.ByMark (marked_of m)
 operand_of (operand.ByName r) = tree.ByName (named_of r)
 
--- a factor, with NOT or without
+-- a factor, with or without NOT
 abbrev pub factor_by : Bool → tree.Test → tree.Factor
 factor_by true t = tree.Negated t
 factor_by false t = tree.Straight t
@@ -58,7 +58,7 @@ factor_by false t = tree.Straight t
 abbrev pub exprs_of : {A B C : Type 0} → Vec (Box (ExprIn A) B) C → List tree.Sum
 exprs_of es = map boxed_expr_of es.items
 
--- ---- one layer, with the trees of its parts in their places
+-- ---- one layer of a tree, whose recursive parts are already pure trees
 
 abbrev pub test_step : {A : Type 0} → TestIn-F A tree.Test tree.Condition tree.Conj tree.Factor → tree.Test
 test_step (Grouped c) = tree.Grouped c.value
@@ -94,14 +94,14 @@ abbrev pub factor_of : {A : Type 0} → FactorIn A → tree.Factor
 factor_of {A} f = fold-FactorIn A tree.Test tree.Condition tree.Conj tree.Factor test_step cond_step conj_step
     factor_step f
 
--- the condition and the test in a box
+-- a boxed condition, and a boxed test
 abbrev pub boxed_cond_of : {A B : Type 0} → Box (CondIn A) B → tree.Condition
 boxed_cond_of b = cond_of b.value
 
 abbrev pub boxed_test_of : {A B : Type 0} → Box (TestIn A) B → tree.Test
 boxed_test_of b = test_of b.value
 
--- the parts of lists
+-- the conjunctions, and the factors, of a list
 abbrev pub conj_list : {A B : Type 0} → Vec (ConjIn A) B → List tree.Conj
 conj_list cs = map conj_of cs.items
 

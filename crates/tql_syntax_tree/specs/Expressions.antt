@@ -1,4 +1,4 @@
--- The pure trees that the code's expressions stand for.
+-- The pure trees that the code's expressions represent.
 use Rattle.std.specs.Prelude.{ℕ, Bool, true, false, List, map, Option, option_map, Box, Vec}
 use denote.Ref.{Bor}
 use Rattle.tql_spec.specs.Definition as definition
@@ -29,11 +29,11 @@ use Rattle.tql_syntax_tree.specs.declared.expression.PrimaryIn.TheFolds.{fold-Si
 abbrev pub digits_of : Bor (List ℕ) → List ℕ
 digits_of text = text.now
 
--- what stands in the quotes of a text
+-- the content of a quoted text
 abbrev pub content_of : Bor (List ℕ) → List ℕ
 content_of text = content 39 text.now
 
--- the name that a word is, or a quoted name
+-- the name of a word or of a quoted name
 abbrev pub name_by : Bool → Bor (List ℕ) → definition.Name
 name_by true text = content 34 text.now
 name_by false text = map upper text.now
@@ -56,7 +56,7 @@ signed_by sign.None p = tree.Unsigned p
 signed_by sign.Plus p = tree.Positive p
 signed_by sign.Minus p = tree.Negative p
 
--- ---- one layer, with the trees of its parts in their places
+-- ---- one layer of a tree, whose recursive parts are already pure trees
 
 abbrev pub primary_step : {A : Type 0} → PrimaryIn-F A tree.Primary AddedTerm tree.Sum tree.Signed tree.Product
     → tree.Primary
@@ -105,7 +105,7 @@ abbrev pub term_of : {A : Type 0} → TermIn A → tree.Product
 term_of {A} t = fold-TermIn A tree.Primary AddedTerm tree.Sum tree.Signed tree.Product primary_step added_step
     expr_step signed_step term_step t
 
--- the expression in a box
+-- a boxed expression
 abbrev pub boxed_expr_of : {A B : Type 0} → Box (ExprIn A) B → tree.Sum
 boxed_expr_of b = expr_of b.value
 

@@ -1,4 +1,4 @@
--- The pure trees that the code's statements stand for.
+-- The pure trees that the code's statements represent.
 use Rattle.std.specs.Prelude.{List, map, Option, option_map, Box, Vec}
 use Rattle.tql_spec.specs.Definition as definition
 use Rattle.tql_spec.specs.Syntax as tree
@@ -89,7 +89,7 @@ constraint_of (constraint.Key k) = key_of k
 constraint_of (constraint.Foreign f) = foreign_of f
 constraint_of (constraint.Check c) = tree.CheckTree (boxed_cond_of c)
 
--- the constraint in a box
+-- a boxed constraint
 abbrev pub boxed_constraint_of : {B : Type 0} → Box Constraint B → tree.Constraint
 boxed_constraint_of b = constraint_of b.value
 
@@ -119,11 +119,11 @@ span_of (span.Between s t) = tree.BetweenTree (content_of s) (content_of t)
 abbrev pub ref_of : RefTree → tree.RefTree
 ref_of r = record { table = name_of r.table; span = span_of r.span; alias = option_map name_of r.alias }
 
--- a join of this kind, of the reference and the condition in the box
+-- a join of this kind, from a boxed reference and condition
 abbrev pub joined_by : {B : Type 0} → (tree.RefTree → tree.Condition → tree.JoinTree) → Box Joined B → tree.JoinTree
 joined_by which j = which (ref_of j.value.reference) (boxed_cond_of j.value.condition)
 
--- a cross join, of the reference in the box
+-- a cross join, from a boxed reference
 abbrev pub crossed_of : {B : Type 0} → Box RefTree B → tree.JoinTree
 crossed_of r = tree.CrossJoin (ref_of r.value)
 
@@ -158,7 +158,7 @@ items_of (These i is) = tree.TheseItems (item_of i) (item_list_of is)
 abbrev pub nameds_of : {B : Type 0} → Vec Named B → List tree.Named
 nameds_of rs = map named_of rs.items
 
--- the condition, where there is one
+-- the condition, if there is one
 abbrev pub filter_of : {A B : Type 0} → Option (Box (CondIn A) B) → Option tree.Condition
 filter_of c = option_map boxed_cond_of c
 
@@ -174,7 +174,7 @@ select_of s =
       having = filter_of s.having;
     }
 
--- the select in a box
+-- a boxed select
 abbrev pub boxed_select_of : {B : Type 0} → Box SelectTree B → tree.SelectTree
 boxed_select_of b = select_of b.value
 
@@ -192,7 +192,7 @@ orders_of ks = map order_of ks.items
 abbrev pub query_of : Query → tree.Statement
 query_of q = tree.QueryTree (boxed_select_of q.select) (orders_of q.ordering)
 
--- READ with this name
+-- READ of the reader with this name
 abbrev pub read_of : Name → Query → tree.Statement
 read_of n q = tree.ReadTree (name_of n) (boxed_select_of q.select) (orders_of q.ordering)
 

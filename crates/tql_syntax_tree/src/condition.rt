@@ -16,7 +16,7 @@ pub enum Comparison {
     AtLeast,
 }
 
-/// The relations of two periods that are written as words.
+/// The relations of two periods, each of which is written as words.
 #[derive(Clone, Copy)]
 pub enum Relation {
     Overlaps,
@@ -27,7 +27,7 @@ pub enum Relation {
     ImmediatelySucceeds,
 }
 
-/// PERIOD (..), or the system period, with the name of its table reference or without.
+/// PERIOD (..), or the system period, optionally qualified by a table reference.
 pub enum MarkedIn<'a, A: Allocator> {
     FromEnds(Box<ExprIn<'a, A>, A>, Box<ExprIn<'a, A>, A>),
     SystemTime(Option<Name<'a>>),
@@ -60,7 +60,7 @@ impl<'a, A: Allocator> Drop for OperandIn<'a, A> {
     }
 }
 
-/// Parts joined by OR.
+/// Conjunctions joined by OR.
 #[cycle(condition)]
 #[derive(Drop)]
 pub struct CondIn<'a, A: Allocator> {
@@ -68,7 +68,7 @@ pub struct CondIn<'a, A: Allocator> {
     pub more: Vec<ConjIn<'a, A>, A>,
 }
 
-/// Parts joined by AND.
+/// Factors joined by AND.
 #[cycle(condition)]
 #[derive(Drop)]
 pub struct ConjIn<'a, A: Allocator> {
@@ -76,7 +76,7 @@ pub struct ConjIn<'a, A: Allocator> {
     pub more: Vec<FactorIn<'a, A>, A>,
 }
 
-/// A test, with NOT before it or without.
+/// A test, optionally preceded by NOT.
 #[cycle(condition)]
 #[derive(Drop)]
 pub struct FactorIn<'a, A: Allocator> {
@@ -84,7 +84,7 @@ pub struct FactorIn<'a, A: Allocator> {
     pub test: Box<TestIn<'a, A>, A>,
 }
 
-/// A test. A flag says that NOT stands in it.
+/// A test. A flag says that it contains NOT.
 #[cycle(condition)]
 #[derive(Drop)]
 pub enum TestIn<'a, A: Allocator> {
@@ -110,7 +110,7 @@ pub type Factor<'a> = FactorIn<'a, Memory>;
 
 pub type Test<'a> = TestIn<'a, Memory>;
 
-/// The condition in a box.
+/// Boxes a condition. The only error is a failed allocation.
 pub fn boxed_cond<'a>(
     memory: Memory,
     condition: Cond<'a>,
@@ -120,7 +120,7 @@ pub fn boxed_cond<'a>(
     Ok(Box::new(memory, condition)?)
 }
 
-/// The test in a box.
+/// Boxes a test. The only error is a failed allocation.
 pub fn boxed_test<'a>(memory: Memory, test: Test<'a>) -> Result<Box<Test<'a>, Memory>, AllocError>
     ensures { IfOk result (λ b. b.value ≡ test.entry) }
 {

@@ -1,6 +1,6 @@
-//! The trees of expressions. Texts, digits and names are kept as they are written in the statement. A name and an
-//! operand keep the byte offset in the statement's text at which they start, so that the message of a refusal can say
-//! where the fault is. No view shows an offset, so no meaning depends on it.
+//! The trees of expressions. Texts, digits and names are kept as written in the statement. A name and an operand keep
+//! their byte offset in the statement's text, so that an error message can say where the fault is. No view contains an
+//! offset, so the meaning of a statement does not depend on it.
 ghost use Rattle.std.specs.Prelude.{◌≡◌, IfOk};
 
 use std::alloc::{AllocError, Allocator};
@@ -14,7 +14,7 @@ pub struct Name<'a> {
     pub start: u32,
 }
 
-/// A column or a period, with the name of its table reference or without.
+/// A column or a period, optionally qualified by a table reference.
 #[derive(Clone, Copy)]
 pub struct Named<'a> {
     pub qualifier: Option<Name<'a>>,
@@ -30,7 +30,7 @@ pub enum Function {
     Max,
 }
 
-/// What stands before a primary.
+/// The sign of a primary.
 #[derive(Clone, Copy)]
 pub enum Sign {
     None,
@@ -38,7 +38,7 @@ pub enum Sign {
     Minus,
 }
 
-/// Terms added and subtracted.
+/// A sum: terms added and subtracted.
 #[cycle(expression)]
 #[derive(Drop)]
 pub struct ExprIn<'a, A: Allocator> {
@@ -46,7 +46,7 @@ pub struct ExprIn<'a, A: Allocator> {
     pub more: Vec<AddedTermIn<'a, A>, A>,
 }
 
-/// A term behind the first.
+/// A term after the first one.
 #[cycle(expression)]
 #[derive(Drop)]
 pub struct AddedTermIn<'a, A: Allocator> {
@@ -54,7 +54,7 @@ pub struct AddedTermIn<'a, A: Allocator> {
     pub term: TermIn<'a, A>,
 }
 
-/// Factors multiplied.
+/// A product: factors multiplied.
 #[cycle(expression)]
 #[derive(Drop)]
 pub struct TermIn<'a, A: Allocator> {
@@ -62,7 +62,7 @@ pub struct TermIn<'a, A: Allocator> {
     pub more: Vec<SignedIn<'a, A>, A>,
 }
 
-/// A primary with its sign.
+/// A primary with its sign. `start` is its byte offset in the statement's text.
 #[cycle(expression)]
 #[derive(Drop)]
 pub struct SignedIn<'a, A: Allocator> {
@@ -71,8 +71,8 @@ pub struct SignedIn<'a, A: Allocator> {
     pub start: u32,
 }
 
-/// A literal, a column, an expression in parentheses, an aggregate. Numbers are kept by their digits, the other
-/// literals by their quoted text.
+/// A literal, a column, an expression in parentheses, or an aggregate. Numbers are kept as digits, and the other
+/// literals as quoted texts.
 #[cycle(expression)]
 #[derive(Drop)]
 pub enum PrimaryIn<'a, A: Allocator> {
@@ -96,7 +96,7 @@ pub type Signed<'a> = SignedIn<'a, Memory>;
 
 pub type Primary<'a> = PrimaryIn<'a, Memory>;
 
-/// The expression in a box.
+/// Boxes an expression. The only error is a failed allocation.
 pub fn boxed_expr<'a>(memory: Memory, value: Expr<'a>) -> Result<Box<Expr<'a>, Memory>, AllocError>
     ensures { IfOk result (λ b. b.value ≡ value.entry) }
 {

@@ -1,4 +1,4 @@
-//! The trees of statements, as the parser makes them and the binder reads them, and what can be told of a tree alone.
+//! The syntax trees of statements, which the parser builds and the binder reads, and checks on a tree alone.
 #![tactic(auto)]
 
 pub mod condition;

@@ -1,4 +1,4 @@
-//! Names and texts without their quotes.
+//! Removing the quotes of names and texts.
 ghost use Rattle.std.specs.Prelude.{◌≡◌, IfOk, string_bytes};
 ghost use Rattle.tql_spec.specs.FirstToken.{content};
 
@@ -10,8 +10,8 @@ use tql_memory::Memory;
 impl Name<'_> {
     ghost use Rattle.tql_syntax_tree.specs.Expressions.{name_of};
 
-    /// The name that is meant: a word in upper case, or what stands in the quotes, each doubled quote once. The only
-    /// error is a refused growth.
+    /// Returns the normalized name: a word in upper case, or the content of the quotes with each doubled quote once.
+    /// The only error is a failed allocation.
     pub fn meant(self, memory: Memory) -> Result<String<Memory>, AllocError>
         ensures { IfOk result (λ name. string_bytes name ≡ name_of self.entry) }
     {
@@ -23,7 +23,7 @@ impl Name<'_> {
     }
 }
 
-/// What stands in the quotes of a literal, each doubled quote once. The only error is a refused growth.
+/// Returns the content of a quoted literal, with each doubled quote once. The only error is a failed allocation.
 pub fn quoted_text(memory: Memory, quoted: &str) -> Result<String<Memory>, AllocError>
     ensures { IfOk result (λ text. string_bytes text ≡ content 39 quoted.now) }
 {

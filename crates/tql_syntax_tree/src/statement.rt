@@ -6,7 +6,7 @@ use crate::expression::{Expr, Name, Named};
 use std::alloc::AllocError;
 use tql_memory::Memory;
 
-/// A type as written; numbers by their digits.
+/// A type as written. Numbers are kept as digits.
 #[derive(Clone, Copy)]
 pub enum TypeName<'a> {
     Integer,
@@ -15,7 +15,7 @@ pub enum TypeName<'a> {
     Timestamp(Option<&'a str>),
 }
 
-/// What a generated column holds.
+/// The value of a generated column.
 #[derive(Clone, Copy)]
 pub enum Generated {
     RowStart,
@@ -31,7 +31,7 @@ pub struct ColumnTree<'a> {
     pub generated: Option<Generated>,
 }
 
-/// The list of a reference, and its period.
+/// The column list of a foreign key, with its period.
 #[derive(Drop)]
 pub struct RefList<'a> {
     pub first: Name<'a>,
@@ -39,7 +39,7 @@ pub struct RefList<'a> {
     pub period: Option<Name<'a>>,
 }
 
-/// A key: its columns, and the period that is WITHOUT OVERLAPS.
+/// A key: its columns, and the period that is declared WITHOUT OVERLAPS.
 #[derive(Drop)]
 pub struct KeyTree<'a> {
     pub is_primary: bool,
@@ -48,7 +48,7 @@ pub struct KeyTree<'a> {
     pub period: Option<Name<'a>>,
 }
 
-/// A reference: its columns, the table it refers to, and the columns there.
+/// A foreign key: its columns, the referenced table, and the referenced columns.
 #[derive(Drop)]
 pub struct ForeignTree<'a> {
     pub child: RefList<'a>,
@@ -56,7 +56,7 @@ pub struct ForeignTree<'a> {
     pub parent: RefList<'a>,
 }
 
-/// Keys, references and checks.
+/// A constraint: a key, a foreign key or a check.
 pub enum Constraint<'a> {
     Key(KeyTree<'a>),
     Foreign(ForeignTree<'a>),
@@ -73,7 +73,7 @@ impl<'a> Drop for Constraint<'a> {
     }
 }
 
-/// A period of CREATE; it has no name where it is SYSTEM_TIME.
+/// A period of CREATE. The name is None for SYSTEM_TIME.
 #[derive(Clone, Copy)]
 pub struct PeriodTree<'a> {
     pub name: Option<Name<'a>>,
@@ -85,7 +85,7 @@ pub struct PeriodTree<'a> {
 pub enum Element<'a> {
     Column(ColumnTree<'a>),
     Period(PeriodTree<'a>),
-    /// A constraint, after its name where CONSTRAINT gives one. Its view leaves the name out.
+    /// A constraint, with the name that CONSTRAINT gives it, if any. The view omits the name.
     Constraint(Option<Name<'a>>, Box<Constraint<'a>, Memory>),
 }
 
@@ -107,7 +107,7 @@ pub struct CreateTree<'a> {
     pub is_versioned: bool,
 }
 
-/// A FOR SYSTEM_TIME clause, or none. Moments are kept by their quoted text.
+/// A FOR SYSTEM_TIME clause, or none. Moments are kept as quoted texts.
 #[derive(Clone, Copy)]
 pub enum SpanTree<'a> {
     None,
@@ -139,7 +139,7 @@ pub enum JoinTree<'a> {
     Cross(Box<RefTree<'a>, Memory>),
 }
 
-/// A chain of FROM.
+/// A chain of joins in FROM.
 #[derive(Drop)]
 pub struct ChainTree<'a> {
     pub first: RefTree<'a>,
@@ -202,14 +202,14 @@ impl<'a> Drop for SelectTree<'a> {
     }
 }
 
-/// A heading, or a position by its digits.
+/// A heading, or the digits of a position.
 #[derive(Clone, Copy)]
 pub enum KeyName<'a> {
     Heading(Name<'a>),
     Position(&'a str),
 }
 
-/// A key of ORDER BY, and whether it falls.
+/// A key of ORDER BY, and whether it is descending.
 #[derive(Clone, Copy)]
 pub struct OrderTree<'a> {
     pub key: KeyName<'a>,
@@ -252,7 +252,7 @@ impl<'a> Drop for Tuple<'a> {
     }
 }
 
-/// Where the rows of INSERT come from.
+/// The source of the rows of INSERT.
 pub enum RowSource<'a> {
     Values(Tuple<'a>, Vec<Tuple<'a>, Memory>),
     Select(Box<SelectTree<'a>, Memory>),
@@ -270,7 +270,7 @@ impl<'a> Drop for RowSource<'a> {
     }
 }
 
-/// INSERT; no columns where it names none.
+/// INSERT. `columns` is empty where the statement names none.
 #[derive(Drop)]
 pub struct Insert<'a> {
     pub table: Name<'a>,
@@ -292,7 +292,7 @@ pub enum PointTree<'a> {
     Moment(&'a str),
 }
 
-/// FOR PORTION OF; the period has no name where it is SYSTEM_TIME.
+/// FOR PORTION OF. The period is None for SYSTEM_TIME.
 #[derive(Clone, Copy)]
 pub struct PortionTree<'a> {
     pub period: Option<Name<'a>>,
@@ -356,7 +356,7 @@ pub enum Statement<'a> {
     CloseReader(Name<'a>),
 }
 
-/// The joined reference in a box.
+/// Boxes a joined reference. The only error is a failed allocation.
 pub fn boxed_joined<'a>(
     memory: Memory,
     joined: Joined<'a>,
@@ -366,7 +366,7 @@ pub fn boxed_joined<'a>(
     Ok(Box::new(memory, joined)?)
 }
 
-/// The table reference in a box.
+/// Boxes a table reference. The only error is a failed allocation.
 pub fn boxed_reference<'a>(
     memory: Memory,
     reference: RefTree<'a>,
@@ -376,7 +376,7 @@ pub fn boxed_reference<'a>(
     Ok(Box::new(memory, reference)?)
 }
 
-/// The select in a box.
+/// Boxes a select. The only error is a failed allocation.
 pub fn boxed_select<'a>(
     memory: Memory,
     select: SelectTree<'a>,
@@ -386,7 +386,7 @@ pub fn boxed_select<'a>(
     Ok(Box::new(memory, select)?)
 }
 
-/// The query in a box.
+/// Boxes a query. The only error is a failed allocation.
 pub fn boxed_query<'a>(
     memory: Memory,
     query: Query<'a>,
@@ -396,7 +396,7 @@ pub fn boxed_query<'a>(
     Ok(Box::new(memory, query)?)
 }
 
-/// The constraint in a box.
+/// Boxes a constraint. The only error is a failed allocation.
 pub fn boxed_constraint<'a>(
     memory: Memory,
     constraint: Constraint<'a>,
@@ -406,7 +406,7 @@ pub fn boxed_constraint<'a>(
     Ok(Box::new(memory, constraint)?)
 }
 
-/// The CREATE TABLE in a box.
+/// Boxes a CREATE TABLE. The only error is a failed allocation.
 pub fn boxed_create<'a>(
     memory: Memory,
     create: CreateTree<'a>,
@@ -416,7 +416,7 @@ pub fn boxed_create<'a>(
     Ok(Box::new(memory, create)?)
 }
 
-/// The INSERT in a box.
+/// Boxes an INSERT. The only error is a failed allocation.
 pub fn boxed_insert<'a>(
     memory: Memory,
     insert: Insert<'a>,
@@ -426,7 +426,7 @@ pub fn boxed_insert<'a>(
     Ok(Box::new(memory, insert)?)
 }
 
-/// The UPDATE in a box.
+/// Boxes an UPDATE. The only error is a failed allocation.
 pub fn boxed_update<'a>(
     memory: Memory,
     update: Update<'a>,
@@ -436,7 +436,7 @@ pub fn boxed_update<'a>(
     Ok(Box::new(memory, update)?)
 }
 
-/// The DELETE in a box.
+/// Boxes a DELETE. The only error is a failed allocation.
 pub fn boxed_delete<'a>(
     memory: Memory,
     delete: Delete<'a>,

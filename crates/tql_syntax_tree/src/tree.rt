@@ -1,7 +1,7 @@
-//! A whole statement, let go by one call.
+//! A whole statement, which one call drops.
 use crate::statement::Statement;
 
-/// The tree of a statement. Who owns it lets it go by one call, whatever the statement is.
+/// The tree of a statement. The owner drops it with one call, whatever the statement is.
 pub struct Tree<'a> {
     pub statement: Statement<'a>,
 }

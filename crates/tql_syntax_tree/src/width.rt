@@ -1,4 +1,4 @@
-//! How wide a statement is: the columns of a CREATE, the table references of a FROM clause.
+//! Limits on the width of a statement: the columns of a CREATE, and the table references of a FROM clause.
 ghost use Rattle.std.specs.Prelude.{◌≡◌, nat_lt};
 ghost use Rattle.tql_spec.specs.Syntax as tree;
 ghost use Rattle.tql_syntax_tree.specs.Statements.{element_of, chain_of, select_of, create_of, insert_of, query_of};
@@ -8,13 +8,13 @@ use crate::statement::{
     ChainTree, CreateTree, Element, Insert, Query, RowSource, SelectTree, Statement,
 };
 
-/// The most columns of a table.
+/// The maximum number of columns of a table.
 const MOST_COLUMNS: usize = 64;
 
-/// The most table references of a select.
+/// The maximum number of table references of a select.
 const MOST_REFERENCES: usize = 8;
 
-/// 1 for a column of CREATE, 0 for another element.
+/// Returns 1 for a column of CREATE, and 0 for any other element.
 fn columns_in(element: &Element<'_>) -> usize
     ensures { result ≡ tree.columns_in (element_of element.now) }
 {
@@ -35,7 +35,7 @@ fn is_wide_table(create: &CreateTree<'_>) -> bool
     count > MOST_COLUMNS
 }
 
-/// How many table references a chain of FROM has.
+/// Counts the table references of a chain of joins in FROM.
 fn chain_length(chain: &ChainTree<'_>) -> usize
     ensures { result ≡ tree.chain_length (chain_of chain.now) }
 {

@@ -1,5 +1,4 @@
--- The calendar of the definitions: what its years, months and days come to, and that parts and day numbers undo each
--- other.
+-- The calendar of the definitions: its years, months and days. Parts and day numbers convert into each other.
 use Rattle.std.proofs.Common.{◌≡◌, ℕ, zero, suc, ◌+◌, ◌-◌, ◌*◌, ◌/◌, ◌<◌, ◌≤◌, inl, inr, cond, IsTrue, refl, ap, ◌∙◌}
 use Rattle.std.proofs.Common.{arith, pos, ◌+ℤ◌, ◌-ℤ◌, nat_abs}
 use Rattle.std.proofs.Math.IntN as IntN
@@ -37,7 +36,7 @@ pub days_before_year-suc : (y : ℕ) → 1 ≤ y
 days_before_year-suc zero h = absurd (omega arith)
 days_before_year-suc (suc n) h = grind (arith, nat_tests)
 
--- the months of a year
+-- the twelve months of a year have all of its days
 pub days_before_month-all : (y : ℕ) → days_before_month y 12 ≡ 365 + cond (is_leap y) 1 0
 days_before_month-all y = grind arith
 
@@ -65,7 +64,7 @@ year_guess_high : (n y : ℕ) → 1 ≤ y → n < days_before_year (y + 1) → n
 year_guess_high n zero h b = absurd (omega arith)
 year_guess_high n (suc k) h b = omega arith
 
--- of the three years about a guess the one that begins last, not after the day, is the day's year
+-- of the three years around a guess, the last one that begins on the day or before is the day's year
 last_begun-is : (n g y : ℕ) → 1 ≤ y → days_before_year y ≤ n → n < days_before_year (y + 1) → y ≤ g + 1 → g ≤ y + 1
     → last_begun n g ≡ y
 last_begun-is n g y low b e near far =
@@ -84,7 +83,7 @@ year_of-is n y low b e =
     (let h = year_guess_low n y low b in omega arith)
     (let h = year_guess_high n y low e in omega arith)
 
--- of a year's first n months the one that begins last, not after the k-th day, is that day's month
+-- of the first n months of a year, the last one that begins on the k-th day or before is that day's month
 pub month_from-is : (y k m n : ℕ) → 1 ≤ m → m ≤ n → days_before_month y (m - 1) ≤ k → k < days_before_month y m
     → month_from y k n ≡ m
 month_from-is y k m zero low high b e = absurd (omega arith)
@@ -96,7 +95,7 @@ month_from-is y k m (suc n) low high b e =
           let ih : month_from y k n ≡ m = month_from-is y k m n low later b e in grind (arith, nat_tests))
     ]
 
--- a date's day lies in its year
+-- a date's day is in its year
 pub days_in_year_bound : (y m d : ℕ) → IsCalendarDate y m d
     → days_before_month y (m - 1) + (d - 1) < 365 + cond (is_leap y) 1 0
 days_in_year_bound y m d h =
@@ -190,7 +189,7 @@ year_bound : (y n : ℕ) → n < day_count → 1 ≤ y → days_before_year y �
 year_bound zero n h low b = omega arith
 year_bound (suc k) n h low b = omega arith
 
--- the parts of a day are a date that lies so many days after the first
+-- the parts of a day are a date that is n days after the first one
 pub date_after_start-date : (n : ℕ) → n < day_count
     → IsCalendarDate (date_after_start n).0 (date_after_start n).1 (date_after_start n).2
 date_after_start-date n h =

@@ -24,7 +24,7 @@ both false b h = cc
 scaled : (n k p : ℕ) → k ≤ 9 → (10 * n + k + 1) * p ≤ (n + 1) * (p * 10)
 scaled n k p h = grind (arith, mul-le-mul_right)
 
--- so many digits spell a number below that power of ten
+-- n digits spell a number below the n-th power of ten
 number_from-below : (n : ℕ) (bs : List ℕ) → list_all is_digit bs ≡ true → number_from n bs < (n + 1) * 10 ^ length bs
 number_from-below n [] h = omega arith
 number_from-below n (b ∷ bs) h =
@@ -43,7 +43,7 @@ number_of-below_power bs k short h =
     let more : 10 ^ length bs ≤ 10 ^ k = pow-le-pow_right (omega arith) short in
     let all = number_of-below bs h in omega arith
 
--- what a loop over digits knows
+-- the invariant of a loop over digits
 pub record SpellsFront (number i : ℕ) (bs : List ℕ) : Type 0 where
   pub spelt : number ≡ number_of (take i bs)
   pub digits : list_all is_digit (take i bs) ≡ true

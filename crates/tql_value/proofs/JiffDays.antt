@@ -53,7 +53,7 @@ pub days_from_civil-day_number : (y m d : ℕ) → 1 ≤ y → 1 ≤ d → days_
 days_from_civil-day_number y m d low first =
     omega (arith, signed_arith, days_from_civil-day_count (pos y) m d, days_same y m d low first)
 
--- a date of the definitions, as `jiff` has it
+-- a date of the definitions, as `jiff` represents it
 unfoldable pub jiff_date : (y m d : ℕ) → IsCalendarDate y m d → Date
 jiff_date y m d h = record {
   year = pos y;
@@ -94,21 +94,21 @@ epoch_day-first date ymd =
     let d : date.day ≡ 1 = omega (arith, signed_arith) in
     rw (ymd.0, m, d) (days_from_civil-day_number 1 1 1 (omega arith) (omega arith))
 
--- the date so many days after the first one
+-- the date that is n days after the first one
 pub first_plus-HasParts : (first date : Date) (n : ℕ) → n < day_total → IsYmd (pos 1) (pos 1) (pos 1) first
     → epoch_day date ≡ epoch_day first +ℤ pos n → HasParts date (date_after_start n)
 first_plus-HasParts first date n h ymd e =
     let start = epoch_day-first first ymd in
     epoch_day-parts date n h (omega (arith, signed_arith))
 
--- that date is one that the library has
+-- the library supports that date
 pub first_plus-IsEpochDay : (first : Date) (n : ℕ) → n < day_total → IsYmd (pos 1) (pos 1) (pos 1) first
     → IsEpochDay (epoch_day first +ℤ pos n)
 first_plus-IsEpochDay first n h ymd =
     let start = epoch_day-first first ymd in
     (omega (arith, signed_arith), omega (arith, signed_arith))
 
--- a date of the definitions is one that `jiff` takes
+-- `jiff` accepts each date of the definitions
 IsDate-from_date : (y m d : ℕ) → IsCalendarDate y m d → IsDate (pos y) (pos m) (pos d)
 IsDate-from_date y m d h =
     let a = h.first_year in let b = h.last_year in let e = h.first_month in let f = h.last_month in
@@ -135,7 +135,7 @@ no_date : (b : Bool) → (b ≡ true → ⊥) → b ≡ false
 no_date true h = absurd (h refl)
 no_date false h = refl
 
--- `jiff` has a date of these parts exactly where the definitions have it, and with the same number
+-- `jiff` has a date of these parts exactly if the definitions have it, and with the same number
 pub IsDateOf-from_jiff : (y m d : ℕ) (r : Option Date) → 0 < y → (is_some r ≡ true → IsDate (pos y) (pos m) (pos d))
     → (IsDate (pos y) (pos m) (pos d) → is_some r ≡ true) → IfSome r (IsYmd (pos y) (pos m) (pos d))
     → MatchOption r (is_date y m d ≡ false) (IsDateOf y m d)
@@ -150,7 +150,7 @@ IsDateOf-from_jiff y m d (Some date) low has hasnt is =
       number = rw (is.0, month, day) (days_from_civil-day_number y m d low valid.first_day);
     }
 
--- the same, of what the constructor gives
+-- the same for the result of the constructor
 pub IsDateOf-from_result : {E : Type 0} (y m d : ℕ) (year month day : ℤ) (r : Result Date E) (o : Option Date)
     → 0 < y → year ≡ pos y → month ≡ pos m → day ≡ pos d → o ≡ result_ok r → IsOk r ↔ IsDate year month day
     → IfOk r (IsYmd year month day) → MatchOption o (is_date y m d ≡ false) (IsDateOf y m d)

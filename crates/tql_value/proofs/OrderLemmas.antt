@@ -11,7 +11,7 @@ use Rattle.tql_spec.specs.Datum.{Datum, Kind, Ints, Texts, Days, Moments, Null, 
 use Rattle.tql_value.specs.Laws.{is_of, IsTotallyOrdered, KindsAreOrdered, TextsLieByCharacters, SameIsEqual}
 use Rattle.tql_value.proofs.TextLemmas.{chars-order}
 
--- ---- what lies level is equal
+-- ---- values that compare as equal are equal
 
 int_level : (x y : ℤ) → int_cmp x y ≡ Equal → x ≡ y
 int_level x y e =
@@ -34,9 +34,9 @@ texts_level [] (y ∷ ys) e = cc
 texts_level (x ∷ xs) [] e = cc
 texts_level (x ∷ xs) (y ∷ ys) e = texts_level_at (nat_cmp x y) x y xs ys refl e (texts_level xs ys)
 
--- ---- a kind's values beside null
+-- ---- the values of a kind, and null
 
--- a kind's values are ordered as what they are made from, and null comes before them
+-- the values of a kind are ordered like the elements that they are made from, and null comes before them
 record Embeds {K : Type 0} (C : K → K → Ordering) (f : K → Datum) : Type 0 where
   pub ordered : IsTotalOrder C
   pub level : (x y : K) → C x y ≡ Equal → x ≡ y
@@ -44,7 +44,7 @@ record Embeds {K : Type 0} (C : K → K → Ordering) (f : K → Datum) : Type 0
   pub before : (y : K) → order Null (f y) ≡ Less
   pub after : (x : K) → order (f x) Null ≡ Greater
 
--- the value of one of them, or null
+-- a value made from one of them, or null
 abbrev pick : {K : Type 0} → (K → Datum) → Option K → Datum
 pick f None = Null
 pick f (Some x) = f x

@@ -1,4 +1,4 @@
--- That a value has a text is a fact, which a type can carry.
+-- Whether a value is printable is a proposition, which a type can carry.
 use Rattle.std.specs.Prelude.{ℕ, List, All}
 use Rattle.std.proofs.Props.{props}
 use Rattle.tql_spec.specs.Datum.{Datum, Null, Int, Text, Day, Moment}
@@ -13,6 +13,6 @@ text_prop (Text t) = Prim.hlevel props
 text_prop (Day d) = Prim.hlevel props
 text_prop (Moment m) = Prim.hlevel props
 
--- so it is of a list of values
+-- the same for a list of values
 pub texts_prop : (vs : List Value) → IsProp (All (λ v. IsPrintable (datum_of_value v)) vs)
 texts_prop vs = Prim.hlevel (props, text_prop)

@@ -12,7 +12,7 @@ use Rattle.std.specs.Str.{chars, IsUtf8}
 use Rattle.tql_spec.specs.Datum.{characters}
 use lib.Utf8.{encode, encodes, next}
 
--- ---- the bytes of one character, by how many they are
+-- ---- the bytes of one character, by their number
 
 encode-one : (c : ℕ) → c < 128 → encode c ≡ c ∷ []
 unfolding encode
@@ -62,7 +62,7 @@ characters-encodes [] = refl
 characters-encodes (c ∷ cs) = let rest = characters-encodes cs in let one =
     characters-encode c (encodes cs) in omega arith
 
--- the bytes that continue no character are as many as the characters
+-- there are as many bytes that do not continue a character as characters
 pub characters-chars : (bs : List ℕ) → IsUtf8 bs → characters bs ≡ length (chars bs)
 characters-chars bs u = ap characters (sym (encodes-chars bs u)) ∙ characters-encodes (chars bs)
 
@@ -78,7 +78,7 @@ same_front : (xs r t : List ℕ) → slice_cmp nat_cmp (xs ++ r) (xs ++ t) ≡ s
 same_front [] r t = refl
 same_front (x ∷ xs) r t = same_here x x (xs ++ r) (xs ++ t) refl ∙ same_front xs r t
 
--- two bytes, the first of which decide unless they are equal
+-- two bytes, of which the first decide unless they are equal
 then_less : (a b c d : ℕ) (r t : List ℕ) → ((a < b) ⊎ ((a ≡ b) × (c < d)))
     → slice_cmp nat_cmp (a ∷ c ∷ r) (b ∷ d ∷ t) ≡ Less
 then_less a b c d r t (inl h) = less_here a b (c ∷ r) (d ∷ t) h
@@ -216,7 +216,7 @@ some_bytes c = elim (cases_lt c 65536) [
   }
 ]
 
--- texts lie as their characters do
+-- texts are in the order of their characters
 pub encodes-order : (cs ds : List ℕ) → slice_cmp nat_cmp (encodes cs) (encodes ds) ≡ slice_cmp nat_cmp cs ds
 encodes-order [] [] = refl
 encodes-order [] (d ∷ ds) = let s = some_bytes d in rw s.is refl

@@ -1,4 +1,4 @@
--- What the order of values is.
+-- Laws of the order of values.
 use Rattle.std.specs.Prelude.{◌≡◌, ◌⊎◌, ◌↔◌, ℕ, Bool, IsTrue, List, Some}
 use Rattle.std.specs.Cmp.Lexicographic.{slice_cmp}
 use Rattle.std.specs.Ordering.{is_le, nat_cmp, ordering_reverse}
@@ -15,7 +15,7 @@ is_of k d = kinds_meet (Some k) (kind_of d)
 abbrev pub at_most : Datum → Datum → Bool
 at_most a b = is_le (order a b)
 
--- the values of a kind, and null, are totally ordered, null first, and only equal values lie level
+-- the values of a kind, and null, are totally ordered, null first, and only equal values compare as equal
 pub record IsTotallyOrdered (k : Kind) : Type 0 where
   pub reflexive : (a : Datum) → IsTrue (is_of k a) → IsTrue (at_most a a)
   pub antisymmetric : (a b : Datum) → IsTrue (is_of k a) → IsTrue (is_of k b) → IsTrue (at_most a b)
@@ -31,11 +31,11 @@ pub record IsTotallyOrdered (k : Kind) : Type 0 where
 abbrev pub KindsAreOrdered : Type 0
 KindsAreOrdered = (k : Kind) → IsTotallyOrdered k
 
--- the order of the bytes of two texts is that of their characters, by their codes
+-- the order of the bytes of two texts is the order of their characters by code
 abbrev pub TextsLieByCharacters : Type 0
 TextsLieByCharacters = (a b : List ℕ) → IsUtf8 a → IsUtf8 b
     → order (Text a) (Text b) ≡ slice_cmp nat_cmp (chars a) (chars b)
 
--- the test of equality holds of equal values alone, of null and null too
+-- the test of equality is true exactly for equal values, including null and null
 abbrev pub SameIsEqual : Type 0
 SameIsEqual = (a b : Datum) → IsTrue (same a b) ↔ (a ≡ b)

@@ -3,7 +3,7 @@ use Rattle.std.specs.Prelude.{ℕ, ◌&&◌, List, drop, Option, Some}
 use Rattle.tql_spec.specs.Calendar.{digits_at, has_byte_at, where_true, read_fraction, micros_of_time}
 use Rattle.tql_spec.specs.Words.{◌>>=◌}
 
--- HH:MM:SS and a fraction from the place 10 on, after a blank: its microseconds
+-- the microseconds of a blank at position 10, HH:MM:SS and a fraction
 abbrev pub time_read : List ℕ → Option ℕ
 time_read bs = do
   h ← digits_at bs 11 2

@@ -12,7 +12,7 @@ IsDay d = (neg_ℤ (pos start_offset) ≤ℤ d) × (d ≤ℤ pos 2_932_896)
 abbrev pub IsMoment : ℤ → Type 0
 IsMoment m = (first_moment ≤ℤ m) × (m ≤ℤ high)
 
--- a value that has a text: a day or a moment that the calendar has, and any other value
+-- a printable value: a day or a moment in the calendar, or any other value
 abbrev pub IsPrintable : Datum → Type 0
 IsPrintable Null = Unit {0}
 IsPrintable (Int n) = Unit {0}
@@ -20,11 +20,11 @@ IsPrintable (Text t) = Unit {0}
 IsPrintable (Day d) = IsDay d
 IsPrintable (Moment m) = IsMoment m
 
--- rows of such values
+-- rows of printable values
 abbrev pub ArePrintable : List Row → Type 0
 ArePrintable rows = All (All IsPrintable) rows
 
--- each moment's parts are a date and a time that lie at that moment
+-- the parts of each moment are the date and the time of that moment
 abbrev pub MomentsReadBack : Type 0
 MomentsReadBack = (m : ℤ) → IsMoment m
     → IsTrue (is_date (moment_day m).0 (moment_day m).1 (moment_day m).2) ×

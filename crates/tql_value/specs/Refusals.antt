@@ -1,4 +1,4 @@
--- The refusal of the definitions that a code value stands for.
+-- The refusal of the definitions that a refusal of the code represents.
 use Rattle.tql_value.specs.declared.refusal.Refusal as code
 use Rattle.tql_value.specs.declared.refusal.Refusal.TheVariants.{StatementTooLong, NotUtf8, UnfinishedStatement}
 use Rattle.tql_value.specs.declared.refusal.Refusal.TheVariants.{NestedTooDeep, NotAStatement, TooManyColumnsOrTables}
@@ -12,7 +12,7 @@ use Rattle.tql_value.specs.declared.refusal.Refusal.TheVariants.{NullNotAllowed,
 use Rattle.tql_value.specs.declared.refusal.Refusal.TheVariants.{DuplicateKey, ReferenceNotMet, OutOfMemory}
 use Rattle.tql_spec.specs.Refusal as spec
 
--- the refusal of the definitions of the same name
+-- the refusal with the same name
 abbrev pub refusal_of : code.Refusal → spec.Refusal
 refusal_of StatementTooLong = spec.StatementTooLong
 refusal_of NotUtf8 = spec.NotUtf8

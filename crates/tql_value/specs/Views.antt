@@ -1,4 +1,4 @@
--- The pure data that the values of the code stand for.
+-- The models of the values of the code.
 use Rattle.std.specs.Prelude.{Bool, true, List, map, Vec, Option, Some, None, Result, Ok, Err}
 use Rattle.tql_spec.specs.Datum.{Datum, Row, Null, Int, Text, Day, Moment, Ints, Texts, Days, Moments, Equals}
 use Rattle.tql_spec.specs.Datum.{Differs, Below, AtMost, Above, AtLeast, same_kind}
@@ -33,20 +33,20 @@ datum_of_value (value.Text s) = Text s
 datum_of_value (value.Day d) = Day d
 datum_of_value (value.Moment m) = Moment m
 
--- the kind among the definitions' kinds
+-- the kind as the definitions represent it
 abbrev pub plain_kind : Kind → spec.Kind
 plain_kind kind.Int = Ints
 plain_kind kind.Text = Texts
 plain_kind kind.Day = Days
 plain_kind kind.Moment = Moments
 
--- the truth among the definitions' truths
+-- the truth as the definitions represent it
 abbrev pub plain_truth : Truth → logic.Truth
 plain_truth truth.False = False
 plain_truth truth.Unknown = Unknown
 plain_truth truth.True = True
 
--- the sign among the definitions' signs
+-- the operator as the definitions represent it
 abbrev pub plain_comparison : Comparison → spec.Comparison
 plain_comparison comparison.Equal = Equals
 plain_comparison comparison.NotEqual = Differs
@@ -55,13 +55,13 @@ plain_comparison comparison.LessOrEqual = AtMost
 plain_comparison comparison.Greater = Above
 plain_comparison comparison.GreaterOrEqual = AtLeast
 
--- whether two kinds may meet in a comparison: they are one, or a value has none
+-- whether values of two kinds may be compared: the kinds are the same, or a value has none
 abbrev pub kinds_meet : Option spec.Kind → Option spec.Kind → Bool
 kinds_meet (Some k) (Some l) = same_kind k l
 kinds_meet (Some k) None = true
 kinds_meet None l = true
 
--- what an evaluation gave, none where it left 64 bits
+-- the result of an evaluation; none if it left 64 bits
 abbrev pub outcome : Result View Range → Option Datum
 outcome (Ok v) = Some (datum_of_view v)
 outcome (Err e) = None

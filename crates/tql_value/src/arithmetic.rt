@@ -6,12 +6,12 @@ ghost use Rattle.tql_value.specs.Views.{datum_of_view, outcome};
 use crate::value::View;
 use thiserror::Error;
 
-/// An evaluation whose exact result leaves 64 bits.
+/// An error: the exact result leaves 64 bits.
 #[derive(Clone, Copy, PartialEq, Eq, Debug, Error)]
 #[error("value out of range")]
 pub struct Range;
 
-/// The sum, exact; NULL with a NULL operand (ISO/IEC 9075-2:2011, 6.27).
+/// Returns the exact sum, or NULL with a NULL operand (ISO/IEC 9075-2:2011, 6.27).
 pub fn add<'a>(a: View<'a>, b: View<'a>) -> Result<View<'a>, Range>
     ensures { outcome result ≡ calculate Plus (datum_of_view a.entry) (datum_of_view b.entry) }
 {
@@ -21,7 +21,7 @@ pub fn add<'a>(a: View<'a>, b: View<'a>) -> Result<View<'a>, Range>
     }
 }
 
-/// The difference, exact; NULL with a NULL operand.
+/// Returns the exact difference, or NULL with a NULL operand.
 pub fn sub<'a>(a: View<'a>, b: View<'a>) -> Result<View<'a>, Range>
     ensures { outcome result ≡ calculate Minus (datum_of_view a.entry) (datum_of_view b.entry) }
 {
@@ -31,7 +31,7 @@ pub fn sub<'a>(a: View<'a>, b: View<'a>) -> Result<View<'a>, Range>
     }
 }
 
-/// The product, exact; NULL with a NULL operand.
+/// Returns the exact product, or NULL with a NULL operand.
 pub fn mul<'a>(a: View<'a>, b: View<'a>) -> Result<View<'a>, Range>
     ensures { outcome result ≡ calculate Times (datum_of_view a.entry) (datum_of_view b.entry) }
 {
@@ -41,7 +41,7 @@ pub fn mul<'a>(a: View<'a>, b: View<'a>) -> Result<View<'a>, Range>
     }
 }
 
-/// A number that fits as a value.
+/// Returns a number that fits in 64 bits as a value, or `Range` if there is none.
 fn in_range<'a>(number: Option<i64>) -> Result<View<'a>, Range>
     ensures { outcome result ≡ option_map Int number }
 {

@@ -19,7 +19,7 @@ pub const FIRST_MOMENT: i64 = -62_135_596_800_000_000;
 /// The last moment, 9999-12-31 23:59:59.999999, in microseconds since 1970-01-01 00:00:00.
 pub const HIGH: i64 = 253_402_300_799_999_999;
 
-/// The microseconds of a day.
+/// The number of microseconds in a day.
 pub(crate) const DAY_LENGTH: u64 = 86_400_000_000;
 
 /// A date of the Gregorian calendar.
@@ -67,7 +67,7 @@ pub fn is_moment(moment: i64) -> bool
     moment >= FIRST_MOMENT && moment <= HIGH
 }
 
-/// The date of these parts, where the calendar has it.
+/// Returns the date of these parts, if the calendar has it.
 fn date_of(year: u16, month: u16, day: u16) -> Option<Date>
     ensures { MatchOption result (is_date year month day ≡ false) (IsDateOf year month day) }
 {
@@ -80,7 +80,7 @@ fn date_of(year: u16, month: u16, day: u16) -> Option<Date>
     Date::new(year, month, day).ok()
 }
 
-/// The days from 0001-01-01 to a date, where the calendar has it.
+/// Returns the number of days from 0001-01-01 to a date, if the calendar has the date.
 pub(crate) fn days_to_date(year: u16, month: u16, day: u16) -> Option<u32>
     ensures value { result ≡ where_true (is_date year month day) (Some (days_after_start year month day)) }
     ensures within { IfSome result (λ days. days < day_count) }
@@ -90,7 +90,7 @@ pub(crate) fn days_to_date(year: u16, month: u16, day: u16) -> Option<u32>
     Some((i64::from(number) - FIRST_DAY) as u32)
 }
 
-/// The date so many days after 0001-01-01, as `jiff` has it.
+/// Returns the date that is `days` days after 0001-01-01, as `jiff` represents it.
 fn date_after(days: u64) -> Date
     requires { days < day_count }
     ensures { HasParts result (date_after_start days) }
@@ -100,7 +100,7 @@ fn date_after(days: u64) -> Date
     Date::from_plain(found)
 }
 
-/// The parts of the date so many days after 0001-01-01.
+/// Returns the parts of the date that is `days` days after 0001-01-01.
 fn parts_after(days: u64) -> DayParts
     requires { days < day_count }
     ensures date { (result.year, result.month, result.day) ≡ date_after_start days }
@@ -114,7 +114,7 @@ fn parts_after(days: u64) -> DayParts
     }
 }
 
-/// The date of a day, given in days since 1970-01-01.
+/// Returns the date of a day, given in days since 1970-01-01.
 pub fn day_parts(day: i64) -> DayParts
     requires { IsDay day }
     ensures date { (result.year, result.month, result.day) ≡ parts_of_day day }
@@ -123,7 +123,7 @@ pub fn day_parts(day: i64) -> DayParts
     parts_after((day - FIRST_DAY) as u64)
 }
 
-/// The date and the time of a moment, given in microseconds since 1970-01-01 00:00:00.
+/// Returns the date and the time of a moment, given in microseconds since 1970-01-01 00:00:00.
 pub fn moment_parts(moment: i64) -> MomentParts
     requires { IsMoment moment }
     ensures date { (result.year, result.month, result.day) ≡ moment_day moment }

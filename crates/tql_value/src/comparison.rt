@@ -1,4 +1,4 @@
-//! The order of values, and the comparisons by it.
+//! The order of values, and the comparisons based on it.
 ghost use Rattle.std.specs.Prelude.{◌≡◌};
 ghost use Rattle.tql_spec.specs.Datum.{order as order_of, rank as rank_of, compare as compared, accepts as accepted};
 ghost use Rattle.tql_value.specs.Views.{datum_of_view, plain_truth, plain_comparison};
@@ -7,7 +7,7 @@ use crate::truth::Truth;
 use crate::value::View;
 use std::cmp::Ordering;
 
-/// The signs of a comparison, ISO/IEC 9075-2:2011, 8.2.
+/// The comparison operators, ISO/IEC 9075-2:2011, 8.2.
 #[derive(Clone, Copy, PartialEq, Eq, Debug)]
 pub enum Comparison {
     /// `=`
@@ -25,7 +25,7 @@ pub enum Comparison {
 }
 
 impl Comparison {
-    /// Whether two values in this order meet the sign.
+    /// Whether two values in this order satisfy the operator.
     pub fn accepts(self, order: Ordering) -> bool
         ensures { result ≡ accepted (plain_comparison self) order }
     {
@@ -40,7 +40,7 @@ impl Comparison {
     }
 }
 
-/// The place of a value's kind, NULL first.
+/// Returns the rank of a value's kind, NULL first.
 fn rank(view: View<'_>) -> u8
     ensures { result ≡ rank_of (datum_of_view view.entry) }
 {
@@ -53,8 +53,8 @@ fn rank(view: View<'_>) -> u8
     }
 }
 
-/// The order of two values, NULL first. Texts are ordered by their UTF-8 bytes, without padding (this project's
-/// choice); values of two kinds, which never meet in one column, by their kinds.
+/// Returns the order of two values, NULL first. Texts are ordered by their UTF-8 bytes, without padding (this project's
+/// choice). Values of two kinds, which never occur in one column, are ordered by their kinds.
 pub fn order(a: View<'_>, b: View<'_>) -> Ordering
     ensures { result ≡ order_of (datum_of_view a.entry) (datum_of_view b.entry) }
 {
@@ -67,8 +67,8 @@ pub fn order(a: View<'_>, b: View<'_>) -> Ordering
     }
 }
 
-/// A comparison of two values; with NULL it is UNKNOWN. Values of two kinds, which never meet in a statement, compare
-/// as they are ordered.
+/// Returns the truth of a comparison of two values; with NULL it is UNKNOWN. Values of two kinds, which no statement
+/// compares, compare as they are ordered.
 pub fn compare(sign: Comparison, a: View<'_>, b: View<'_>) -> Truth
     ensures { plain_truth result
         ≡ compared (plain_comparison sign) (datum_of_view a.entry) (datum_of_view b.entry) }

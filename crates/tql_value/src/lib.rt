@@ -1,5 +1,5 @@
-//! Values, their comparison, their order, their arithmetic, their calendar, the versions that are asked for, and the
-//! refusals of statements.
+//! Values with their comparison, order, arithmetic and calendar, the versions that a query can read, and the refusals
+//! of statements.
 #![tactic(auto)]
 
 pub mod arithmetic;

@@ -1,4 +1,4 @@
-//! The texts of DATE and TIMESTAMP literals, read.
+//! Parses the texts of DATE and TIMESTAMP literals.
 ghost use Rattle.std.specs.Prelude.{◌≡◌, ◌+◌, ◌*◌, ◌<◌, ◌≤◌, ◌^◌, length, drop, IsTrue, IfSome, All, Some, None};
 ghost use Rattle.std.specs.Prelude.{if◌then◌else◌, pos, ◌-ℤ◌, ◌&&◌, ◌-◌, ◌++◌, slice_index, replicate};
 ghost use Rattle.std.specs.List.{list_all};
@@ -11,7 +11,7 @@ ghost use Rattle.tql_value.specs.Points.{IsDay, IsMoment};
 
 use crate::calendar::{DAY_LENGTH, FIRST_DAY, FIRST_MOMENT, days_to_date};
 
-/// The number that up to four bytes spell, where all of them are ASCII digits.
+/// Returns the number that up to four bytes spell, if all of them are ASCII digits.
 fn number_of_digits(bytes: &[u8]) -> Option<u16>
     requires { length bytes.now ≤ 4 }
     ensures { result ≡ (if list_all is_digit bytes.now then Some (number_of bytes.now) else None) }
@@ -26,7 +26,7 @@ fn number_of_digits(bytes: &[u8]) -> Option<u16>
     Some(number)
 }
 
-/// The number that so many bytes from this place on spell, where they are all there and digits.
+/// Returns the number that `count` bytes from `start` on spell, if they all exist and are digits.
 fn digits_at(bytes: &[u8], start: usize, count: usize) -> Option<u16>
     requires near { start ≤ 20 }
     requires some { 0 < count }
@@ -37,14 +37,14 @@ fn digits_at(bytes: &[u8], start: usize, count: usize) -> Option<u16>
     number_of_digits(part)
 }
 
-/// The bytes from a place on.
+/// Returns the bytes from a position on.
 fn rest_from(bytes: &[u8], place: usize) -> &[u8]
     ensures { result.now ≡ drop place bytes.now }
 {
     bytes.get(place..).unwrap_or(&[])
 }
 
-/// Whether this byte, which is not 0, stands at this place.
+/// Whether this byte, which is not 0, is at this position.
 fn has_byte_at(bytes: &[u8], place: usize, byte: u8) -> bool
     requires { 0 < byte }
     ensures { result ≡ stands bytes.now place byte }
@@ -55,7 +55,7 @@ fn has_byte_at(bytes: &[u8], place: usize, byte: u8) -> bool
     }
 }
 
-/// The date `YYYY-MM-DD` at the start of the bytes, in days since 0001-01-01.
+/// Parses the date `YYYY-MM-DD` at the start of the bytes. Returns days since 0001-01-01.
 fn date_at_start(bytes: &[u8]) -> Option<u32>
     ensures value { result ≡ days_at_start bytes.now }
     ensures within { IfSome result (λ days. days < day_count) }
@@ -70,9 +70,9 @@ fn date_at_start(bytes: &[u8]) -> Option<u32>
     }
 }
 
-/// The day of a DATE literal's text, `YYYY-MM-DD`, in days since 1970-01-01. None where the text has
-/// another form or the Gregorian calendar has no such date from the year 1 to the year 9999
-/// (ISO/IEC 9075-2:2011, 5.3).
+/// Parses the text of a DATE literal, `YYYY-MM-DD`. Returns days since 1970-01-01. Returns `None` if the text has
+/// another form, or if the Gregorian calendar has no such date from the year 1 to the year 9999 (ISO/IEC 9075-2:2011,
+/// 5.3).
 pub fn read_date(text: &str) -> Option<i64>
     ensures value { result ≡ date_read text.now }
     ensures within { IfSome result IsDay }
@@ -91,7 +91,7 @@ fn are_digits(bytes: &[u8]) -> bool
     bytes.iter().all(|byte| byte.is_ascii_digit())
 }
 
-/// The digit at one of six places, and 0 past the last digit.
+/// Returns the digit at one of six positions, or 0 past the last digit.
 fn digit_or_zero(digits: &[u8], place: usize) -> u8
     requires digits { IsTrue (list_all is_digit digits.now) }
     requires within { place < 6 }
@@ -104,7 +104,7 @@ fn digit_or_zero(digits: &[u8], place: usize) -> u8
     }
 }
 
-/// The microseconds that a fraction's digits spell: six of them, filled with zeros on the right.
+/// Returns the microseconds of a fraction: its first six digits, filled with zeros on the right.
 fn micros_of_digits(digits: &[u8]) -> u32
     requires { IsTrue (list_all is_digit digits.now) }
     ensures value { result ≡ micros_of digits.now }
@@ -117,7 +117,7 @@ fn micros_of_digits(digits: &[u8]) -> u32
     micros
 }
 
-/// The microseconds of a fraction: nothing, or a point and 1 to 12 digits.
+/// Parses a fraction: nothing, or a point and 1 to 12 digits. Returns microseconds.
 fn fraction_at_end(bytes: &[u8]) -> Option<u32>
     ensures value { result ≡ fraction_read bytes.now }
     ensures within { IfSome result (λ micros. micros < 1_000_000) }
@@ -134,7 +134,7 @@ fn fraction_at_end(bytes: &[u8]) -> Option<u32>
     }
 }
 
-/// The microseconds of a time of day, where the clock has it.
+/// Returns the microseconds of a time of day, if the clock has it.
 fn time_of_day(hour: u16, minute: u16, second: u16, fraction: u32) -> Option<u64>
     requires { fraction < 1_000_000 }
     ensures value { result ≡ micros_of_time hour minute second fraction }
@@ -148,14 +148,14 @@ fn time_of_day(hour: u16, minute: u16, second: u16, fraction: u32) -> Option<u64
     }
 }
 
-/// Whether the signs of a time stand at their places: a blank before it, and `:` after hour and minute.
+/// Whether the separators of a time are in place: a blank before it, and `:` after hour and minute.
 fn has_signs_of_time(bytes: &[u8]) -> bool
     ensures { result ≡ (stands bytes.now 10 32 && stands bytes.now 13 58 && stands bytes.now 16 58) }
 {
     has_byte_at(bytes, 10, b' ') && has_byte_at(bytes, 13, b':') && has_byte_at(bytes, 16, b':')
 }
 
-/// The time `HH:MM:SS`, with a fraction or without, at the end of a TIMESTAMP literal's bytes, in
+/// Parses the time `HH:MM:SS`, with or without a fraction, at the end of the bytes of a TIMESTAMP literal. Returns
 /// microseconds.
 fn time_at_end(bytes: &[u8]) -> Option<u64>
     ensures value { result ≡ time_read bytes.now }
@@ -173,10 +173,10 @@ fn time_at_end(bytes: &[u8]) -> Option<u64>
     }
 }
 
-/// The moment of a TIMESTAMP literal's text, `YYYY-MM-DD HH:MM:SS`, optionally with a point and 1 to
-/// 12 digits, in microseconds since 1970-01-01 00:00:00. Digits past the sixth are dropped. None where
-/// the text has another form or there is no such moment from the year 1 to the year 9999
-/// (ISO/IEC 9075-2:2011, 5.3; the digits dropped are this project's choice).
+/// Parses the text of a TIMESTAMP literal, `YYYY-MM-DD HH:MM:SS`, optionally with a point and 1 to 12 digits. Returns
+/// microseconds since 1970-01-01 00:00:00. Digits past the sixth are dropped. Returns `None` if the text has another
+/// form or there is no such moment from the year 1 to the year 9999 (ISO/IEC 9075-2:2011, 5.3; dropping the digits is
+/// this project's choice).
 pub fn read_timestamp(text: &str) -> Option<i64>
     ensures value { result ≡ timestamp_read text.now }
     ensures within { IfSome result IsMoment }

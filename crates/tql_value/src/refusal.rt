@@ -1,4 +1,4 @@
-//! Why a statement is refused, and the order of report.
+//! The reasons to refuse a statement, and the order in which they are reported.
 ghost use Rattle.std.specs.Prelude.{◌≡◌, Some};
 ghost use Rattle.tql_spec.specs.Refusal.{earlier as earlier_of, place as place_of};
 ghost use Rattle.tql_spec.specs.Text.{number as number_of, wording};
@@ -9,7 +9,7 @@ use std::alloc::{AllocError, AllocFailed};
 use std::error::Error;
 use std::fmt;
 
-/// Why a statement was refused, in the order in which the first present reason is reported.
+/// Why a statement was refused. If there are several reasons, the first one in this order is reported.
 #[derive(Clone, Copy, PartialEq, Eq, Debug)]
 pub enum Refusal {
     /// The statement has more than 1,048,576 bytes.
@@ -20,23 +20,23 @@ pub enum Refusal {
     UnfinishedStatement,
     /// More than 64 parentheses are open at once.
     NestedTooDeep,
-    /// The text is not all tokens, or its tokens are not in the grammar.
+    /// The text is not a sequence of tokens, or its tokens are not in the grammar.
     NotAStatement,
     /// A table of more than 64 columns, or a query of more than 8 references.
     TooManyColumnsOrTables,
-    /// The statement wants a transaction open, or none.
+    /// The statement needs an open transaction, or needs that none is open.
     NotInThisTransactionState,
-    /// The clock cannot be set so, or has no moment left.
+    /// The clock cannot be set to this moment, or has no moment left.
     MomentNotAllowed,
-    /// An open reader keeps what the statement would take away.
+    /// An open reader needs what the statement would remove.
     ReadersAreOpen,
-    /// A table that is not there, or one that is there already.
+    /// A table that does not exist, or one that already exists.
     TableUnknownOrAlreadyThere,
-    /// A name that is not found, found several times, or repeated.
+    /// A name that is unknown, ambiguous or repeated.
     NameUnknownAmbiguousOrRepeated,
     /// Kinds, lengths or numbers of cells that do not fit.
     TypesDoNotFit,
-    /// A form that may not stand where it stands.
+    /// A form that is not allowed in this place.
     FormNotAllowedHere,
     /// A table that another references.
     TableIsReferenced,
@@ -44,28 +44,28 @@ pub enum Refusal {
     TooManyTablesOrReaders,
     /// A moment whose versions are pruned.
     BeforeTheHorizon,
-    /// A reader that is not there, or cannot be used so.
+    /// A reader that does not exist, or cannot be used in this way.
     ReaderNotUsable,
     /// A literal, an evaluation or a text out of its range.
     ValueOutOfRange,
-    /// A portion that does not rise.
+    /// A portion that does not start before it ends.
     PortionNotRising,
     /// A null where none is allowed.
     NullNotAllowed,
-    /// An application-time period that does not rise.
+    /// An application-time period that does not start before it ends.
     PeriodNotRising,
     /// A CHECK that is false.
     CheckFailed,
-    /// Two rows with one key.
+    /// Two rows with the same key.
     DuplicateKey,
-    /// A reference that no row meets.
+    /// A reference that matches no row.
     ReferenceNotMet,
-    /// A growth was refused.
+    /// An allocation was refused.
     OutOfMemory,
 }
 
 impl Refusal {
-    /// The number, as it is printed after `E`.
+    /// Returns the number that is printed after `E`.
     pub fn number(self) -> u32
         ensures { result ≡ number_of (refusal_of self) }
     {
@@ -75,14 +75,14 @@ impl Refusal {
         }
     }
 
-    /// The place in the order of report, from 0.
+    /// Returns the position in the order of report, from 0.
     pub fn place(self) -> u32
         ensures { result ≡ place_of (refusal_of self) }
     {
         self as u32
     }
 
-    /// The one of the two that is reported before the other.
+    /// Returns the one of the two that is reported first.
     pub fn earlier(self, other: Refusal) -> Refusal
         ensures { refusal_of result ≡ earlier_of (refusal_of self) (Some (refusal_of other)) }
     {
@@ -93,7 +93,7 @@ impl Refusal {
         }
     }
 
-    /// The number and the text, as they are printed.
+    /// Returns the number and the text, as they are printed.
     pub fn text(self) -> &'static str
         ensures { result.now ≡ wording (refusal_of self) }
     {

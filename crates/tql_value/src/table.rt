@@ -3,7 +3,7 @@ ghost use Rattle.std.specs.Prelude.{◌≡◌, ◌↔◌, ◌<◌, ℕ, IsSome, 
 
 use std::marker::Model;
 
-/// The number of a table, below 1,000: as many tables may be there at once. Contracts see the number.
+/// The number of a table, below 1,000, which is the greatest number of tables. The model is the number.
 #[derive(Clone, Copy, PartialEq, Eq, PartialOrd, Ord, Hash, Debug)]
 pub struct TableId {
     number: u16,
@@ -22,7 +22,7 @@ impl Model for TableId {
 }
 
 impl TableId {
-    /// The table of this number, none from 1,000 on.
+    /// Creates the number of a table; `None` from 1,000 on.
     pub fn new(number: u16) -> Option<TableId>
         ensures within { IsSome result ↔ (number < 1000) }
         ensures value { IfSome result (λ t. t ≡ number) }
@@ -34,7 +34,7 @@ impl TableId {
         }
     }
 
-    /// The number, below 1,000.
+    /// Returns the number, below 1,000.
     pub fn number(self) -> u16
         ensures value { result ≡ self }
         ensures within { self < 1000 }

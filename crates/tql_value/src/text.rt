@@ -6,7 +6,7 @@ use std::alloc::AllocError;
 use std::marker::Model;
 use tql_memory::Memory;
 
-/// A text that owns its memory. Contracts see it as the list of its UTF-8 bytes.
+/// A text that owns its memory. Its model is the list of its UTF-8 bytes.
 #[derive(Drop, Debug)]
 pub struct Text {
     inner: String<Memory>,
@@ -21,7 +21,7 @@ impl Model for Text {
 }
 
 impl Text {
-    /// The text in memory of its own.
+    /// Copies a text into memory of its own.
     pub fn copy_of(memory: Memory, text: &str) -> Result<Text, AllocError>
         ensures { IfOk result (λ t. t ≡ text.now) }
     {
@@ -30,7 +30,7 @@ impl Text {
         })
     }
 
-    /// The text to read.
+    /// Returns the text for reading.
     pub fn as_str(&self) -> &str
         ensures { result.now ≡ self.now }
     {
@@ -38,7 +38,7 @@ impl Text {
     }
 }
 
-/// How many characters a text has.
+/// Returns the number of characters of a text.
 pub fn characters(text: &str) -> usize
     ensures { result ≡ characters_of text.now }
 {

@@ -3,19 +3,19 @@ ghost use Rattle.std.specs.Prelude.{◌≡◌};
 ghost use Rattle.tql_spec.specs.Truth.{and as both, or as either, negated, is_true as true_of, is_false as false_of};
 ghost use Rattle.tql_value.specs.Views.{plain_truth};
 
-/// What a condition says: the three-valued logic of ISO/IEC 9075-2:2011, boolean value expression.
+/// The truth of a condition, in the three-valued logic of ISO/IEC 9075-2:2011, boolean value expression.
 #[derive(Clone, Copy, PartialEq, Eq, Debug)]
 pub enum Truth {
     /// The condition does not hold.
     False,
-    /// A NULL keeps it from being known.
+    /// It is not known, because of a NULL.
     Unknown,
     /// The condition holds.
     True,
 }
 
 impl Truth {
-    /// The least of the two, in the order FALSE, UNKNOWN, TRUE.
+    /// Returns the lesser of the two, in the order FALSE, UNKNOWN, TRUE.
     pub fn and(self, other: Truth) -> Truth
         ensures { plain_truth result ≡ both (plain_truth self) (plain_truth other) }
     {
@@ -26,7 +26,7 @@ impl Truth {
         }
     }
 
-    /// The greatest of the two, in the order FALSE, UNKNOWN, TRUE.
+    /// Returns the greater of the two, in the order FALSE, UNKNOWN, TRUE.
     pub fn or(self, other: Truth) -> Truth
         ensures { plain_truth result ≡ either (plain_truth self) (plain_truth other) }
     {
@@ -37,7 +37,7 @@ impl Truth {
         }
     }
 
-    /// TRUE for FALSE and FALSE for TRUE; UNKNOWN stays.
+    /// Returns TRUE for FALSE and FALSE for TRUE; UNKNOWN stays.
     pub fn not(self) -> Truth
         ensures { plain_truth result ≡ negated (plain_truth self) }
     {
@@ -48,14 +48,14 @@ impl Truth {
         }
     }
 
-    /// Whether it is TRUE: what WHERE, ON and HAVING keep.
+    /// Whether it is TRUE. WHERE, ON and HAVING keep rows by this test.
     pub fn is_true(self) -> bool
         ensures { result ≡ true_of (plain_truth self) }
     {
         matches!(self, Truth::True)
     }
 
-    /// Whether it is FALSE: what a CHECK refuses.
+    /// Whether it is FALSE. A CHECK refuses rows by this test.
     pub fn is_false(self) -> bool
         ensures { result ≡ false_of (plain_truth self) }
     {

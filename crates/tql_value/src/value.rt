@@ -1,4 +1,4 @@
-//! Values, owned or borrowed, their kinds, and the tables that queries answer.
+//! Values, owned or borrowed, their kinds, and the result tables of queries.
 ghost use Rattle.std.specs.Prelude.{◌≡◌, MatchResult, option_map};
 ghost use Rattle.tql_spec.specs.Datum.{kind_of, is_null as null_of};
 ghost use Rattle.tql_value.specs.Views.{datum_of_value, datum_of_view, plain_kind};
@@ -8,10 +8,10 @@ use crate::text::Text;
 use std::alloc::AllocError;
 use tql_memory::Memory;
 
-/// What a value that is not NULL may be.
+/// The kinds of values that are not NULL.
 #[derive(Clone, Copy, PartialEq, Eq, Debug)]
 pub enum Kind {
-    /// A whole number of 64 bits: INTEGER, INT and BIGINT are one kind.
+    /// A whole number of 64 bits. INTEGER, INT and BIGINT are one kind.
     Int,
     /// A text: VARCHAR.
     Text,
@@ -37,7 +37,7 @@ pub enum Value {
     Moment(i64),
 }
 
-/// A value to read: it borrows its text.
+/// A value for reading, which borrows its text.
 #[derive(Clone, Copy, PartialEq, Eq, Debug)]
 pub enum View<'a> {
     /// No value.
@@ -52,7 +52,7 @@ pub enum View<'a> {
     Moment(i64),
 }
 
-/// What a query answers: its headings, and its rows column by column.
+/// The result of a query: its headings, and its rows as lists of values.
 #[derive(Debug)]
 pub struct ResultTable {
     /// The heading of each column.
@@ -70,7 +70,7 @@ impl Drop for ResultTable {
 }
 
 impl Value {
-    /// The value to read, without memory.
+    /// Returns the value for reading. Allocates no memory.
     pub fn view(&self) -> View<'_>
         ensures { datum_of_view result ≡ datum_of_value self.now }
     {
@@ -85,7 +85,7 @@ impl Value {
 }
 
 impl<'a> View<'a> {
-    /// The value in memory of its own. Only a text takes memory: its refusal is the only error.
+    /// Copies the value into memory of its own. Only a text is allocated: a refusal of its memory is the only error.
     pub fn to_value(self, memory: Memory) -> Result<Value, Refusal>
         ensures { MatchResult result
             (λ v. datum_of_value v ≡ datum_of_view self.entry)
@@ -100,7 +100,7 @@ impl<'a> View<'a> {
         }
     }
 
-    /// The kind of the value, none of NULL.
+    /// Returns the kind of the value, or `None` for NULL.
     pub fn kind(self) -> Option<Kind>
         ensures { option_map plain_kind result ≡ kind_of (datum_of_view self.entry) }
     {

@@ -1,15 +1,15 @@
-//! Which versions of a table are asked for.
+//! The versions of a table that a query reads.
 
-/// Which versions of a table are asked for, by moments in microseconds since 1970-01-01: FOR SYSTEM_TIME of ISO/IEC
+/// Which versions of a table a query reads, by moments in microseconds since 1970-01-01: FOR SYSTEM_TIME of ISO/IEC
 /// 9075-2:2011, 7.6 `<table reference>`.
 #[derive(Clone, Copy)]
 pub enum When {
-    /// The rows now.
+    /// The current rows.
     Now,
-    /// The versions that hold the moment.
+    /// The versions whose period contains the moment.
     AsOf(i64),
-    /// Those that share a moment with the range, its end left out.
+    /// The versions whose period shares a moment with the range, without its end.
     FromTo(i64, i64),
-    /// Those that share a moment with the range and its end.
+    /// The versions whose period shares a moment with the range, including its end.
     Between(i64, i64),
 }

@@ -1,4 +1,4 @@
--- The versions that a horizon leaves, and their places.
+-- The versions that a horizon keeps, and their positions.
 use Rattle.std.proofs.Common.{◌≡◌, ℕ, ◌+◌, ◌<◌, Bool, true, false, cond, List, [], ◌∷◌, ◌++◌, filter, drop, get_or}
 use Rattle.std.proofs.Common.{length, append-nil, append_assoc, refl, sym, ap, subst, ◌∙◌}
 use Rattle.std.specs.Prelude.{ℤ, ◌&&◌, All, if◌then◌else◌}
@@ -16,7 +16,7 @@ pub stay_of : (h : ℤ) (ks : List Kept)
 stay_of h [] = refl
 stay_of h (k ∷ ks) = ap (λ b. stays h (version_of k) && b) (stay_of h ks)
 
--- what the code keeps of its versions
+-- the versions that the code keeps
 pub left_of : (h : ℤ) (ks : List Kept)
     → versions_of (filter (λ (k : Kept). stays h (version_of k)) ks) ≡ left_by h (versions_of ks)
 left_of h [] = refl

@@ -1,4 +1,4 @@
--- Lists of versions, a step of a loop further.
+-- One loop step over a list of versions.
 use Rattle.std.proofs.Common.{◌≡◌, ◌<◌, ℕ, zero, suc, ◌+◌, List, [], ◌∷◌, ◌++◌, drop, set, get_or, length, append_assoc}
 use Rattle.std.proofs.Common.{sym, ap, ◌∙◌, arith}
 use Rattle.std.specs.Prelude.{ℤ}

@@ -1,4 +1,4 @@
--- Which versions a question asks for, and their ids.
+-- Which versions a query selects, and their ids.
 use Rattle.std.specs.Prelude.{◌≡◌, ℕ, ◌+◌, Bool, false, ◌&&◌, List, [], ◌∷◌, map, filter, length, ℤ, pos, ◌+ℤ◌}
 use Rattle.std.specs.Prelude.{int_le, int_lt, nat_lt, nat_eq, count_by, slice_get, slice_index_or, Option, Some, None}
 use Rattle.std.specs.Prelude.{if◌then◌else◌}
@@ -14,22 +14,22 @@ use Rattle.tql_versions.specs.Changes.{alive, is_current, holds, nothing}
 
 -- ---- questions
 
--- whether a reading asks for a version
+-- whether a query selects a version
 abbrev pub asked : When → definition.Version → Bool
 asked Now v = is_current v
 asked (AsOf t) v = holds t v
 asked (FromTo a b) v = int_lt a b && (int_lt v.row.start b && int_lt a v.end)
 asked (Between a b) v = int_le a b && (int_le v.row.start b && int_lt a v.end)
 
--- whether a version holds a moment and is asked for
+-- whether a version is non-empty and selected
 abbrev pub is_answer : When → definition.Version → Bool
 is_answer when v = alive v && asked when v
 
--- whether a period shares a point with the one between two ends, if these rise
+-- whether two ends rise and a period shares a point with the period between them
 abbrev pub meets : ℤ → ℤ → Period → Bool
 meets a b x = int_lt a b && share_a_point x (record { start = a; end = b })
 
--- whether a reading asks the index for a period; of closed versions it asks for those of the periods that it asks for
+-- whether the index search for a query returns this period; the current rows need no search
 abbrev pub sought : When → Period → Bool
 sought Now x = false
 sought (AsOf t) x = held x t
@@ -51,48 +51,48 @@ pub record Answer : Type 0 where
 abbrev pub version_shown : Version → definition.Version
 version_shown s = record { row = record { cells = map datum_of_value s.row.now; start = s.start }; end = s.end }
 
--- and its id with it
+-- the version that a reading shows, with its id
 abbrev pub answer_of : Version → Answer
 answer_of s = record { id = s.id; version = version_shown s }
 
--- versions with their ids, the first under a number
+-- versions with consecutive ids, the first one given
 abbrev pub numbered : ℕ → List definition.Version → List Answer
 numbered n [] = []
 numbered n (v ∷ vs) = record { id = n; version = v } ∷ numbered (n + 1) vs
 
--- a version that holds a moment and passes a test
+-- whether a version is non-empty and passes a test
 abbrev pub told_by : (definition.Version → Bool) → definition.Version → Bool
 told_by test v = alive v && test v
 
--- those that do
+-- the versions that do, with their ids
 abbrev pub answers_by : (definition.Version → Bool) → ℕ → List definition.Version → List Answer
 answers_by test n vs = filter (λ (a : Answer). told_by test a.version) (numbered n vs)
 
--- those that are asked for
+-- the versions that a query selects, with their ids
 abbrev pub answers_from : ℕ → When → List definition.Version → List Answer
 answers_from n when vs = filter (λ (a : Answer). is_answer when a.version) (numbered n vs)
 
--- the versions at these places, each with the id that is so much higher; numbers beyond are no places
+-- the versions at these positions, each with the id `base` + position; numbers past the end are skipped
 abbrev pub placed : ℕ → List definition.Version → List ℕ → List Answer
 placed base vs numbers = map (λ n. record {
   id = base + n;
   version = slice_index_or vs n nothing;
 }) (filter (λ n. nat_lt n (length vs)) numbers)
 
--- an answer's id names its version
+-- the id of an answer is that of its version
 abbrev pub Names : List definition.Version → Version → Type 0
 Names vs s = slice_get vs s.id ≡ Some (version_shown s)
 
--- each version that is asked for is named once, no other at all
+-- each non-empty version that passes the test occurs once among the answers, and no other does
 abbrev pub NamesOnce : (definition.Version → Bool) → List definition.Version → List Version → Type 0
 NamesOnce test vs found = (i : ℕ) (v : definition.Version) → slice_get vs i ≡ Some v
     → count_by (λ (s : Version). nat_eq s.id i) found ≡ (if alive v && test v then 1 else 0)
 
--- a version that holds a moment and is not closed
+-- a version, if it is non-empty and not closed
 abbrev pub where_open : Option definition.Version → Option definition.Version
 where_open None = None
 where_open (Some v) = if alive v && is_current v then Some v else None
 
--- of versions those that hold a moment and are not closed
+-- the versions that are non-empty and not closed
 abbrev pub open_ones : List definition.Version → List definition.Version
 open_ones vs = filter (is_answer Now) vs

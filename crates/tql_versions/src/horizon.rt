@@ -1,4 +1,4 @@
-//! Which versions a horizon leaves.
+//! Versions that a horizon keeps.
 ghost use Rattle.std.specs.Prelude.{◌≡◌, ◌<◌, ◌++◌, [], ◌∷◌, All, IfOk, OnOk, if◌then◌else◌, length, vec_capacity};
 ghost use Rattle.std.specs.List.{list_all};
 ghost use Rattle.tql_versions.specs.Changes.{left_by, stays as does_stay};
@@ -9,21 +9,21 @@ use crate::kept::{Kept, is_open};
 use std::alloc::AllocError;
 use tql_memory::Memory;
 
-/// Whether a horizon leaves a version: one that ends after it, or that is not closed.
+/// Whether a horizon keeps a version: one that ends after it, or that is not closed.
 fn stays(version: &Kept, horizon: i64) -> bool
     ensures { result ≡ does_stay horizon (version_of version.now) }
 {
     horizon < version.end || is_open(version)
 }
 
-/// Whether a horizon leaves all of these versions.
+/// Whether a horizon keeps all of these versions.
 pub fn all_stay(versions: &[Kept], horizon: i64) -> bool
     ensures { result ≡ list_all (does_stay horizon) (versions_of versions.now) }
 {
     versions.iter().all(|version| stays(version, horizon))
 }
 
-/// Adds a place, if a horizon leaves the version there.
+/// Adds a position, if a horizon keeps the version there.
 fn push_left(
     places: &mut Vec<usize, Memory>,
     place: usize,
@@ -39,7 +39,7 @@ fn push_left(
     Ok(())
 }
 
-/// The places of the versions that a horizon leaves, in their order.
+/// Returns the positions of the versions that a horizon keeps, in order.
 pub fn places_left(
     memory: Memory,
     versions: &[Kept],
@@ -56,7 +56,7 @@ pub fn places_left(
     Ok(places)
 }
 
-/// Lets the versions go that a horizon does not leave. Takes no memory.
+/// Removes the versions that a horizon does not keep. Allocates no memory.
 pub fn retain_left(versions: &mut Vec<Kept, Memory>, horizon: i64)
     ensures left { versions_of versions.new.items ≡ left_by horizon (versions_of versions.old.items) }
     ensures room { vec_capacity versions.new ≡ vec_capacity versions.old }

@@ -1,4 +1,4 @@
-//! What a change, a commit and a rollback make of versions in a plain list.
+//! Changes, commits and rollbacks on a plain list of versions.
 ghost use Rattle.std.specs.Prelude.{◌≡◌, ◌≤◌, ◌<◌, ◌+◌, ◌++◌, [], All, OnOk, map, length};
 ghost use Rattle.std.specs.Prelude.{false, true, if◌then◌else◌, vec_len, vec_capacity, ◌<ℤ◌};
 ghost use Rattle.tql_spec.specs.Calendar.{high};
@@ -16,18 +16,18 @@ use tql_memory::Memory;
 use tql_period::period::Period;
 use tql_value::value::Value;
 
-/// A version in its place.
+/// A stored version.
 #[derive(Drop)]
 pub struct Kept {
-    /// Its cells, but the generated ones.
+    /// Its cells, without the generated columns.
     pub row: Vec<Value, Memory>,
-    /// Since when it holds, in microseconds since 1970-01-01.
+    /// Start of its period, in microseconds since 1970-01-01.
     pub start: i64,
-    /// Until when, that moment left out; `HIGH` while it is not closed.
+    /// End of its period (exclusive); `HIGH` while the version is not closed.
     pub end: i64,
 }
 
-/// Whether a version holds a moment.
+/// Whether a version is non-empty, that is, starts before it ends.
 pub fn is_alive(version: &Kept) -> bool
     ensures { result ≡ alive (version_of version.now) }
 {
@@ -48,7 +48,7 @@ fn end_at(version: &mut Kept, moment: i64)
     version.end = moment;
 }
 
-/// Takes a version out of its place, and leaves one there that holds no moment.
+/// Takes a version out of its position and leaves an empty one there, which starts and ends at the moment.
 fn take_version(version: &mut Kept, memory: Memory, moment: i64) -> Kept
     ensures taken { version_of result ≡ version_of version.old }
     ensures left { version_of version.new ≡ moved_out moment }
@@ -63,8 +63,7 @@ fn take_version(version: &mut Kept, memory: Memory, moment: i64) -> Kept
     )
 }
 
-/// Ends the versions in these places at a moment: one in the open transaction's closes them, the highest opens
-/// them again.
+/// Sets the end of the versions at these positions: the open transaction's moment closes them, `HIGH` reopens them.
 fn end_each(versions: &mut [Kept], places: &[usize], moment: i64)
     requires { All (λ i. i < length versions.old) places.now }
     ensures ends { versions_of versions.new ≡ closing moment places.now (versions_of versions.old) }
@@ -75,7 +74,7 @@ fn end_each(versions: &mut [Kept], places: &[usize], moment: i64)
     }
 }
 
-/// Opens the versions in these places again.
+/// Reopens the versions at these positions.
 pub fn reopen_each(versions: &mut [Kept], places: &[usize])
     requires { All (λ i. i < length versions.old) places.now }
     ensures opens { versions_of versions.new ≡ closing high places.now (versions_of versions.old) }
@@ -84,7 +83,7 @@ pub fn reopen_each(versions: &mut [Kept], places: &[usize])
     end_each(versions, places, HIGH);
 }
 
-/// Adds each row's version, which begins at the moment. Takes no memory.
+/// Adds a version for each row, beginning at the moment. Allocates no memory.
 fn add_each(versions: &mut Vec<Kept, Memory>, added: Vec<Vec<Value, Memory>, Memory>, moment: i64)
     requires { vec_len versions.old + vec_len added ≤ vec_capacity versions.old }
     ensures { versions_of versions.new.items ≡ versions_of versions.old.items
@@ -99,7 +98,7 @@ fn add_each(versions: &mut Vec<Kept, Memory>, added: Vec<Vec<Value, Memory>, Mem
     }
 }
 
-/// Closes the versions in these places at the moment and adds the rows. Takes no memory.
+/// Closes the versions at these positions at the moment and adds the rows. Allocates no memory.
 pub fn replace(
     versions: &mut Vec<Kept, Memory>,
     removed: &[usize],
@@ -115,7 +114,7 @@ pub fn replace(
     add_each(versions, added, moment);
 }
 
-/// Notes the places: those below the base as ended, the others as dead. Takes no memory.
+/// Records the positions: those below `base` as ended, the others as dead. Allocates no memory.
 pub fn mark_each(
     ended: &mut Vec<usize, Memory>,
     dead: &mut Vec<usize, Memory>,
@@ -136,7 +135,7 @@ pub fn mark_each(
     }
 }
 
-/// Moves the versions in these places, in their order, behind the closed ones. Takes no memory.
+/// Moves the versions at these positions, in order, to the end of the closed ones. Allocates no memory.
 fn retire(
     versions: &mut [Kept],
     closed: &mut Vec<Kept, Memory>,
@@ -157,7 +156,7 @@ fn retire(
     }
 }
 
-/// Moves them where the table keeps its history, and leaves all as it is where it does not. Takes no memory.
+/// Moves them if the table keeps its history, and changes nothing otherwise. Allocates no memory.
 pub fn retire_kept(
     keeps: bool,
     versions: &mut [Kept],
@@ -179,7 +178,7 @@ pub fn retire_kept(
     }
 }
 
-/// Makes room for more closed versions, where the table keeps its history.
+/// Reserves room for more closed versions, if the table keeps its history.
 pub fn reserve_kept(
     keeps: bool,
     closed: &mut Vec<Kept, Memory>,
@@ -197,7 +196,7 @@ pub fn reserve_kept(
     closed.reserve(more)
 }
 
-/// The period of a version that is closed at the moment.
+/// Returns the period of a version that is closed at the moment.
 pub fn span(version: &Kept, moment: i64) -> Period
     requires { (version_of version.now).row.start <ℤ moment }
     ensures { points_of result ≡ (record { start = (version_of version.now).row.start; end = moment }) }
@@ -208,7 +207,7 @@ pub fn span(version: &Kept, moment: i64) -> Period
     }
 }
 
-/// The period of a version.
+/// Returns the period of a version.
 pub fn span_of(version: &Kept) -> Period
     requires { (version_of version.now).row.start <ℤ (version_of version.now).end }
     ensures { points_of result ≡ period_of (version_of version.now) }

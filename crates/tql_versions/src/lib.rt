@@ -1,5 +1,5 @@
-//! Versions of rows: which of them a question asks for, which a horizon leaves, and what a change, a commit and a
-//! rollback make of them.
+//! Row versions: which of them a query selects, which a horizon keeps, and what a change, a commit and a rollback do to
+//! them.
 #![tactic(auto)]
 
 pub mod horizon;

@@ -1,4 +1,4 @@
-//! Which versions a question asks for, how they are shown, and in which period they stood.
+//! Which versions a query selects, how they are shown, and the period of the closed ones that it selects.
 ghost use Rattle.std.specs.Prelude.{◌≡◌, ◌++◌, [], ◌∷◌, ◌+ℤ◌, ◌<ℤ◌, pos, IfOk, IfSome, OnOk, Some, map, option_map};
 ghost use Rattle.std.specs.Int.{int_min};
 ghost use Rattle.tql_spec.specs.Calendar.{high};
@@ -15,13 +15,13 @@ use tql_memory::Memory;
 use tql_period::period::Period;
 use tql_value::when::When;
 
-/// A period in which no closed version stood.
+/// A period that shares a point with no closed version.
 const NEVER: Period = Period {
     start: HIGH,
     end: HIGH + 1,
 };
 
-/// Whether a version is asked for.
+/// Whether `when` selects a version.
 pub fn asks(when: When, version: &Kept) -> bool
     ensures { result ≡ asked when (version_of version.now) }
 {
@@ -33,14 +33,14 @@ pub fn asks(when: When, version: &Kept) -> bool
     }
 }
 
-/// Whether a version holds a moment and is asked for.
+/// Whether a version is non-empty and selected by `when`.
 fn answers_to(when: When, version: &Kept) -> bool
     ensures { result ≡ is_answer when (version_of version.now) }
 {
     is_alive(version) && asks(when, version)
 }
 
-/// The version as a reading answers it.
+/// Returns the version as a reading shows it.
 pub fn shown(id: usize, version: &Kept) -> Version<'_>
     ensures version { version_shown result ≡ version_of version.now }
     ensures id { result.id ≡ id }
@@ -53,7 +53,7 @@ pub fn shown(id: usize, version: &Kept) -> Version<'_>
     }
 }
 
-/// The version under an id, if it holds a moment and is not closed. Takes no memory.
+/// Returns the version under an id, if it is non-empty and not closed. Allocates no memory.
 pub fn if_open(id: usize, version: &Kept) -> Option<Version<'_>>
     ensures version { option_map version_shown result ≡ where_open (Some (version_of version.now)) }
     ensures id { IfSome result (λ v. v.id ≡ id) }
@@ -65,7 +65,7 @@ pub fn if_open(id: usize, version: &Kept) -> Option<Version<'_>>
     }
 }
 
-/// Adds a version to what was found, if it is asked for.
+/// Adds a version to the result, if it is selected.
 fn push_asked<'a>(
     found: &mut Vec<Version<'a>, Memory>,
     id: usize,
@@ -81,7 +81,7 @@ fn push_asked<'a>(
     Ok(())
 }
 
-/// A list for answers, with room for all of so many versions where these are asked for the rows now.
+/// Returns an empty result list, with room for all `count` versions if the current rows are requested.
 fn room_for<'a>(
     memory: Memory,
     count: usize,
@@ -95,7 +95,7 @@ fn room_for<'a>(
     }
 }
 
-/// The versions of a list that are asked for, each by its place.
+/// Returns the selected versions of a list; the id of each is its position.
 pub fn answers_in(
     memory: Memory,
     versions: &[Kept],
@@ -110,7 +110,7 @@ pub fn answers_in(
     Ok(found)
 }
 
-/// The period between these ends; where they do not rise, one in which no closed version stood.
+/// Returns the period between two ends; if they do not rise, one that no closed version shares a point with.
 fn moments_between(a: i64, b: i64) -> Period
     ensures { (x : _) → x.end <ℤ high → share_a_point x (points_of result) ≡ meets a b x }
 {
@@ -120,14 +120,14 @@ fn moments_between(a: i64, b: i64) -> Period
     }
 }
 
-/// The period between these ends, the upper one included. Nothing is sought beyond the highest moment.
+/// Returns the period between two ends, the upper one included, but nothing beyond the highest moment.
 fn moments_through(a: i64, b: i64) -> Period
     ensures { (x : _) → x.end <ℤ high → share_a_point x (points_of result) ≡ meets a (int_min b high +ℤ pos 1) x }
 {
     moments_between(a, b.min(HIGH) + 1)
 }
 
-/// The period in which closed versions stood that are asked for.
+/// Returns a period that shares a point with exactly the closed versions that `when` selects.
 pub fn moments_asked(when: When) -> Period
     ensures { (x : _) → x.start <ℤ x.end → x.end <ℤ high → share_a_point x (points_of result) ≡ sought when x }
 {

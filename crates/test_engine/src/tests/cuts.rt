@@ -1,4 +1,4 @@
-//! Scripts that are cut at each byte: what came whole is answered, and then what an unfinished text is answered.
+//! Scripts that are cut at each byte: complete statements are answered, and then the unfinished text.
 use crate::tests::Engine;
 use crate::tests::devices::run_script;
 use crate::tests::scripts::{SCRIPTS, Script, bytes_from, cut_at};
@@ -10,7 +10,7 @@ use tql_memory::memory;
 /// Reads of seven bytes.
 const BY_SEVEN: Setting = Setting { size: 7, ..SOUND };
 
-/// Whether the first bytes of a script are answered as they are to be, in memory and in pieces.
+/// Whether the first bytes of a script have the expected replies, in memory and in pieces.
 fn is_answered(rt: &impl AllocGlobal, script: Script, front: &[u8]) -> Result<bool, Fail> {
     let mut cut = cut_at(rt.alloc(), script, front.len())?;
     let rest = cut.rest;
@@ -23,7 +23,7 @@ fn is_answered(rt: &impl AllocGlobal, script: Script, front: &[u8]) -> Result<bo
     Ok(have_ended && output.as_slice() == cut.text.as_slice() && found.text == cut.text)
 }
 
-/// Whether a script is answered as it is to be, cut at each of its bytes.
+/// Whether a script, cut at each of its bytes, has the expected replies.
 fn is_answered_anywhere(rt: &impl AllocGlobal, script: Script) -> Result<bool, Fail> {
     let bytes = bytes_from(rt.alloc(), script, 0)?;
     for length in 0..=bytes.len() {

@@ -1,4 +1,4 @@
-//! Runs of scripts over memory, and devices that fail.
+//! Runs of scripts over devices in memory that can fail.
 use crate::tests::Engine;
 use std::test::Fail;
 use test_devices::Setting;
@@ -11,15 +11,15 @@ use tql_run::runner::{Fault, Summary};
 use tql_run::silence::Silence;
 use tql_run::std_source::StdSource;
 
-/// What a run answered, and what it wrote.
+/// The end of a run, its output, and its failures.
 #[derive(Drop)]
 pub struct Outcome {
     pub end: Result<Summary, Fault>,
     pub text: Vec<u8>,
-    /// How many failures the source counted, and how many the sink.
+    /// The number of failures that the source counted, and that the sink counted.
     pub source_faults: u64,
     pub sink_faults: u64,
-    /// How many writes the writer let fail, and how many flushes.
+    /// The number of writes and of flushes in which the writer failed.
     pub failed_writes: u64,
     pub failed_flushes: u64,
 }

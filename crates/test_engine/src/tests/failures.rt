@@ -1,5 +1,5 @@
-//! Devices that fail at each of their calls, over scripts of each kind: what was written then is a beginning of what
-//! the script is answered, the fault is the right one, and a second run goes on behind what was run.
+//! Devices that fail at each of their calls, over scripts of each kind. The output is a prefix of the expected replies,
+//! the fault is the right one, and a second run continues after the statements that ran.
 use crate::tests::Engine;
 use crate::tests::devices::{Outcome, run_on};
 use crate::tests::scripts::{Cut, SCRIPTS, Script, bytes_from, cut_at, replies_in, text_from};
@@ -11,7 +11,7 @@ use tql_run::runner::{Fault, Summary};
 /// More calls of a device than a run of these scripts makes.
 const MOST_CALLS: u64 = 5000;
 
-/// What goes wrong behind so many calls: reads fail, or say that the input has ended; writes or flushes fail.
+/// The failure after a number of calls: reads fail or report the end of the input, or writes or flushes fail.
 #[derive(Clone, Copy, PartialEq, Eq, Debug)]
 enum Failing {
     Nothing,
@@ -42,7 +42,7 @@ const TAKING_SEVEN: Setting = Setting {
     ..BY_NINETY
 };
 
-/// What devices do, and what goes wrong with the source and with the sink.
+/// The devices, and the failures of the source and of the sink.
 const DEVICES: [(Setting, Failing, Failing); 13] = [
     (SOUND, Failing::Nothing, Failing::Nothing),
     (TAKING_NONE, Failing::Nothing, Failing::Nothing),
@@ -59,7 +59,7 @@ const DEVICES: [(Setting, Failing, Failing); 13] = [
     (BY_NINETY, Failing::End, Failing::Flushes),
 ];
 
-/// Devices of which something goes wrong behind so many calls.
+/// Returns devices with a failure after `calls` calls.
 fn with_failure(setting: Setting, failing: Failing, calls: u64) -> Setting {
     match failing {
         Failing::Nothing => setting,
@@ -82,13 +82,13 @@ fn with_failure(setting: Setting, failing: Failing, calls: u64) -> Setting {
     }
 }
 
-/// How many of so many bytes come by so many reads.
+/// Returns how many of `length` bytes this number of reads returns.
 fn coming(setting: Setting, reads: u64, length: usize) -> usize {
     let given = reads.saturating_mul(setting.size as u64);
     given.min(length as u64) as usize
 }
 
-/// Whether a read fails before one says that the input has ended.
+/// Whether a read fails before one reports the end of the input.
 fn source_fails(setting: Setting, length: usize) -> bool {
     match setting.reads.checked_sub(1) {
         Some(before) => {
@@ -98,17 +98,17 @@ fn source_fails(setting: Setting, length: usize) -> bool {
     }
 }
 
-/// What a run of a script showed.
+/// The result of a run of a script.
 #[derive(Clone, Copy, PartialEq, Eq, Debug)]
 struct Trial {
-    /// Whether all of it is as it is to be.
+    /// Whether all of it is as expected.
     is_right: bool,
     /// Whether the source failed or ended early, and whether the sink failed.
     source_failed: bool,
     sink_failed: bool,
 }
 
-/// What a run counts of a text that it wrote whole.
+/// Returns the counts of a run that wrote a text completely.
 fn counted(text: &[u8], cut: &Cut) -> Summary {
     let mut refused = 0u64;
     for line in str::from_utf8(text).unwrap_or("").lines() {
@@ -123,7 +123,7 @@ fn counted(text: &[u8], cut: &Cut) -> Summary {
     }
 }
 
-/// Whether a run ended as it is to, where these bytes of its script came and a read then failed or did not.
+/// Whether a run ended correctly, by the bytes of its script that came and by whether a read then failed.
 fn ends_well(found: &Outcome, cut: &Cut, fails: bool) -> bool {
     let faults = (found.source_faults, found.sink_faults);
     let failed = found.failed_writes.saturating_add(found.failed_flushes);
@@ -143,7 +143,7 @@ fn ends_well(found: &Outcome, cut: &Cut, fails: bool) -> bool {
     }
 }
 
-/// How many statements of a script ran: where a write failed, the one whose reply it was to write too.
+/// Returns the number of statements of a script that ran. If a write failed, its statement ran too.
 fn ran(script: Script, found: &Outcome, cut: &Cut) -> usize {
     let written = replies_in(script, found.text.len());
     let run = if found.failed_writes > 0 {
@@ -154,7 +154,7 @@ fn ran(script: Script, found: &Outcome, cut: &Cut) -> usize {
     run.min(cut.count)
 }
 
-/// Whether an engine goes on behind a run as where nothing failed: the statements that did not run are answered.
+/// Whether an engine continues after a run as if nothing had failed: it answers the statements that did not run.
 fn goes_on(
     rt: &impl AllocGlobal,
     engine: &mut Engine,
@@ -166,7 +166,7 @@ fn goes_on(
     Ok(found.end.is_ok() && found.text == text_from(rt.alloc(), script, ran)?)
 }
 
-/// Runs a script, and what did not run of it once more.
+/// Runs a script, and then the statements that did not run.
 fn tried(rt: &impl AllocGlobal, script: Script, setting: Setting) -> Result<Trial, Fail> {
     let bytes = bytes_from(rt.alloc(), script, 0)?;
     let came = coming(setting, setting.reads.min(setting.giving), bytes.len());
@@ -186,8 +186,8 @@ fn tried(rt: &impl AllocGlobal, script: Script, setting: Setting) -> Result<Tria
     })
 }
 
-/// Runs a script where its sink fails at its first call, then at its second, and so on, until it does not meet the
-/// failure; gives that run, or the first one that is wrong.
+/// Runs a script with its sink failing at its first call, then at its second, and so on, until it does not meet the
+/// failure. Returns that run, or the first wrong one.
 fn at_each_sink_call(
     rt: &impl AllocGlobal,
     script: Script,
@@ -203,8 +203,8 @@ fn at_each_sink_call(
     Ok(None)
 }
 
-/// Whether a script is run as it is to be where its source fails at its first call, then at its second, and so on,
-/// until it does not meet the failure, and at each of these its sink at each of its own.
+/// Whether a script runs correctly with its source failing at its first call, then at its second, and so on, until it
+/// does not meet the failure; each combined with its sink failing at each of its calls.
 fn at_each_call(
     rt: &impl AllocGlobal,
     script: Script,
@@ -224,7 +224,7 @@ fn at_each_call(
     Ok(false)
 }
 
-/// Whether a script is run as it is to be by all devices; which ones are wrong is told by their number.
+/// Runs a script on all devices. Returns the number of the first devices on which a run is wrong, if any.
 fn by_all_devices(rt: &impl AllocGlobal, script: Script) -> Result<Option<usize>, Fail> {
     for (number, (setting, source, sink)) in DEVICES.into_iter().enumerate() {
         if !at_each_call(rt, script, setting, source, sink)? {

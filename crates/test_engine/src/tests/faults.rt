@@ -7,7 +7,7 @@ use tql_engine::runner::run_bytes;
 use tql_memory::memory;
 use tql_run::runner::{Fault, Summary};
 
-/// A table, its clock, a row, a question, and what is no whole statement.
+/// A table, its clock, a row, a query, and an unfinished statement.
 const SCRIPT: &str = "CREATE TABLE log (x INTEGER, s TIMESTAMP GENERATED ALWAYS AS ROW START,
   e TIMESTAMP GENERATED ALWAYS AS ROW END,
   PERIOD FOR SYSTEM_TIME (s, e)) WITH SYSTEM VERSIONING;
@@ -19,16 +19,16 @@ INSERT INTO";
 const WHOLE: &str = "CREATE TABLE\nAT\nINSERT 1\nX|S|E\n\
     7|2011-01-01 00:00:00|9999-12-31 23:59:59.999999\n(1 rows)\nREFUSED E12 unfinished statement\n";
 
-/// What a whole run of the script counts.
+/// The counts of a complete run of the script.
 const COUNTED: Summary = Summary {
     statements: 5,
     refused: 1,
 };
 
-/// More growths than the replies to the script make.
+/// More allocations than the replies to the script make.
 const MOST_GROWTHS: u64 = 20;
 
-/// Devices whose reads end behind so many of thirty bytes.
+/// Returns devices whose reads return thirty bytes, and fail after this number of reads.
 fn thirties(reads: u64) -> Setting {
     Setting {
         size: 30,

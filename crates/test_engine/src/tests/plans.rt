@@ -1,4 +1,4 @@
-//! How the plans of questions find rows.
+//! The access paths of queries.
 ghost use Rattle.std.specs.Prelude.{◌≤◌, All, IfOk, length};
 ghost use Rattle.tql_bound.specs.Placed.{IsPlacedQuery};
 ghost use Rattle.tql_bound.specs.Queries.{bound_query_of};
@@ -29,7 +29,7 @@ const NUMBERS: &str = "CREATE TABLE z (y INTEGER)";
 const EMPLOYEES: &str = "CREATE TABLE emp (eno INTEGER, dept VARCHAR(10), estart DATE, eend DATE, \
                          PERIOD FOR ep (estart, eend), PRIMARY KEY (eno, ep WITHOUT OVERLAPS))";
 
-/// Tables, questions, and in how many places their plans find rows by an equality, by a key, and by a period.
+/// Tables, queries, and in how many places their plans find rows by an equality, by a key, and by a period.
 const QUESTIONS: [(&str, &str, (usize, usize, usize)); 3] = [
     (
         NUMBERS,
@@ -44,7 +44,7 @@ const QUESTIONS: [(&str, &str, (usize, usize, usize)); 3] = [
     ),
 ];
 
-/// The catalog of the table that a statement makes.
+/// Returns the catalog with the table that a statement creates.
 fn catalog_of(rt: &impl Abort, memory: Memory, text: &str) -> Result<Catalog, Fail>
     ensures { IfOk result (λ c. All (λ d. length d.columns ≤ 64) (definitions_of c)) }
 {
@@ -62,7 +62,7 @@ fn catalog_of(rt: &impl Abort, memory: Memory, text: &str) -> Result<Catalog, Fa
     Ok(tables)
 }
 
-/// In how many places the plan of a query finds rows otherwise than by comparing all.
+/// Returns in how many places the plan of a query finds rows without comparing all of them.
 fn planned(memory: Memory, tables: &Catalog, query: &BoundQuery) -> Result<Counts, AllocError>
     requires { IsPlacedQuery (definitions_of tables.now) (bound_query_of query.now) }
 {
@@ -70,7 +70,7 @@ fn planned(memory: Memory, tables: &Catalog, query: &BoundQuery) -> Result<Count
     Ok(plan.counts())
 }
 
-/// The same of the text of a query.
+/// Returns the same for the text of a query.
 fn counts_of(rt: &impl Abort, memory: Memory, tables: &Catalog, text: &str) -> Result<Counts, Fail>
     requires { All (λ d. length d.columns ≤ 64) (definitions_of tables.now) }
 {

@@ -1,15 +1,15 @@
-//! Scripts of each kind, a statement at a time, each with what it is answered. By hand from docs/LANGUAGE.md.
+//! Scripts of each kind, with the expected reply to each statement. Written by hand from docs/LANGUAGE.md.
 use std::alloc::{AllocError, Global};
 
-/// The statements of a script in turn, each up to its `;`, and what they are answered; the last one may have no `;`.
+/// The statements of a script in order, each up to its `;`, with their replies. The last one may have no `;`.
 pub type Script = &'static [(&'static [u8], &'static str)];
 
-/// What is answered of what no `;` ends.
+/// The reply to a text that no `;` ends.
 const UNFINISHED: &str = "REFUSED E12 unfinished statement\n";
 
 const NOT_UTF8: &str = "REFUSED E11 not UTF-8\n";
 
-/// Tables and questions, with a `;` in quotes and in a comment.
+/// Tables and queries, with a `;` in quotes and in a comment.
 const TABLES: Script = &[
     (
         b"CREATE TABLE log (x INTEGER, t VARCHAR(9), s TIMESTAMP GENERATED ALWAYS AS ROW START, e TIMESTAMP
@@ -32,7 +32,7 @@ const TABLES: Script = &[
     (b" -- the end; ", ""),
 ];
 
-/// Transactions, of which one is undone.
+/// Transactions, one of which is rolled back.
 const TRANSACTIONS: Script = &[
     (b"CREATE TABLE t (x INTEGER);", "CREATE TABLE\n"),
     (b"START TRANSACTION;", "START TRANSACTION\n"),
@@ -129,7 +129,7 @@ const REFUSALS: Script = &[
     (b"\xc3", NOT_UTF8),
 ];
 
-/// A text that never closes, and takes all in behind it.
+/// A quoted text that is never closed, so everything after it belongs to it.
 const OPEN: Script = &[
     (b"CREATE TABLE t (x INTEGER);", "CREATE TABLE\n"),
     (
@@ -141,7 +141,7 @@ const OPEN: Script = &[
 /// The scripts.
 pub const SCRIPTS: [Script; 5] = [TABLES, TRANSACTIONS, PORTIONS, REFUSALS, OPEN];
 
-/// The bytes of a script from a statement on.
+/// Returns the bytes of a script from a statement on.
 pub fn bytes_from(alloc: Global, script: Script, first: usize) -> Result<Vec<u8>, AllocError> {
     let mut bytes = Vec::new(alloc);
     for (statement, _) in script.iter().skip(first) {
@@ -150,7 +150,7 @@ pub fn bytes_from(alloc: Global, script: Script, first: usize) -> Result<Vec<u8>
     Ok(bytes)
 }
 
-/// What a script is answered from a statement on.
+/// Returns the replies to a script from a statement on.
 pub fn text_from(alloc: Global, script: Script, first: usize) -> Result<Vec<u8>, AllocError> {
     let mut text = Vec::new(alloc);
     for (_, reply) in script.iter().skip(first) {
@@ -159,7 +159,7 @@ pub fn text_from(alloc: Global, script: Script, first: usize) -> Result<Vec<u8>,
     Ok(text)
 }
 
-/// Whether a text has more than blanks and comments.
+/// Whether a text contains more than blanks and comments.
 fn has_text(rest: &[u8]) -> bool {
     let mut is_comment = false;
     for (at, byte) in rest.iter().enumerate() {
@@ -174,7 +174,7 @@ fn has_text(rest: &[u8]) -> bool {
     false
 }
 
-/// What is answered of what no `;` ends.
+/// Returns the reply to a text that no `;` ends; empty if it is only blanks and comments.
 fn rest_text(rest: &[u8]) -> &'static str {
     match str::from_utf8(rest) {
         _ if !has_text(rest) => "",
@@ -183,17 +183,17 @@ fn rest_text(rest: &[u8]) -> &'static str {
     }
 }
 
-/// What a script is answered of which so many bytes came.
+/// The replies to a prefix of a script.
 #[derive(Drop)]
 pub struct Cut {
-    /// What the statements are answered that came whole, and how many these are.
+    /// The replies to the complete statements, and the number of these statements.
     pub text: Vec<u8>,
     pub count: usize,
-    /// What is answered of the rest where the input ends there.
+    /// The reply to the rest if the input ends there.
     pub rest: &'static str,
 }
 
-/// What a script is answered of which so many bytes come.
+/// Returns the replies to the first `length` bytes of a script.
 pub fn cut_at(alloc: Global, script: Script, length: usize) -> Result<Cut, AllocError> {
     let mut cut = Cut {
         text: Vec::new(alloc),
@@ -213,7 +213,7 @@ pub fn cut_at(alloc: Global, script: Script, length: usize) -> Result<Cut, Alloc
     Ok(cut)
 }
 
-/// How many replies are whole in the first bytes of what a script is answered.
+/// Returns the number of replies that are complete in the first `length` bytes of the replies to a script.
 pub fn replies_in(script: Script, length: usize) -> usize {
     let mut left = length;
     let mut count = 0usize;

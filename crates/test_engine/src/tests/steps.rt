@@ -1,5 +1,5 @@
-//! Statements by their texts: COMMIT and ROLLBACK where memory has ended, one with its semicolon, and questions to an
-//! index that refuses memory for them.
+//! Statements given to `step`: COMMIT and ROLLBACK after memory has run out, one with its semicolon, and queries over
+//! an index whose lookups all fail.
 use crate::tests::Engine;
 use std::process::Abort;
 use std::test::Fail;
@@ -9,10 +9,10 @@ use tql_memory::{Memory, memory};
 use tql_result::reply::{Reply, Verb};
 use tql_value::refusal::Refusal;
 
-/// More growths than the statements of these tests make.
+/// More allocations than the statements of these tests make.
 const MOST_GROWTHS: u64 = 4000;
 
-/// An engine in a transaction that has changed rows, if so much memory is enough for it.
+/// Returns an engine in a transaction that has changed rows. None if the memory is not enough.
 fn changed_engine(memory: Memory) -> Option<Engine> {
     let mut engine = Engine::new(memory);
     for text in [
@@ -31,7 +31,7 @@ fn changed_engine(memory: Memory) -> Option<Engine> {
     Some(engine)
 }
 
-/// An engine in a transaction whose memory has just ended.
+/// Returns an engine in a transaction whose memory has just run out.
 fn spent_engine(rt: &(impl Abort + AllocGlobal)) -> Result<Engine, Fail> {
     for granted in 0..MOST_GROWTHS {
         let memory = memory(rt.alloc(), granted)?;
@@ -74,7 +74,7 @@ fn takes_no_semicolon_in_a_step(rt: HostRuntime) -> Result<(), Fail> {
     Ok(())
 }
 
-/// Statements for an index that refuses memory for each question, and what each is refused for.
+/// Statements for an index whose lookups all fail, and the refusal of each.
 const QUESTIONS: [(&str, Option<Refusal>); 8] = [
     (
         "CREATE TABLE log (x INTEGER, s TIMESTAMP GENERATED ALWAYS AS ROW START, \
@@ -103,7 +103,7 @@ const QUESTIONS: [(&str, Option<Refusal>); 8] = [
     ),
 ];
 
-/// What a reply refuses a statement for.
+/// Returns the refusal in a reply, if any.
 fn refusal_in(reply: &Reply) -> Option<Refusal> {
     match reply {
         Reply::Refused(refusal) => Some(*refusal),

@@ -9,7 +9,7 @@ use tql_result::reply::{Reply, Verb};
 use tql_run::responder::Responder;
 use tql_value::refusal::Refusal;
 
-/// Counts the bytes of each statement, and takes no statement `no`.
+/// Counts the bytes of each statement, and refuses the statement `no`.
 #[derive(Drop)]
 pub struct Lengths {
     pub memory: Memory,

@@ -1,4 +1,5 @@
-//! tql_index: what was added before memory ended is there, and what was refused is not; and how deep the tree is.
+//! tql_index: entries that were added before memory ran out are there, and refused ones are not; and the depth of the
+//! tree.
 use std::alloc::AllocError;
 use std::process::Abort;
 use std::test::Fail;
@@ -8,8 +9,8 @@ use tql_index::tree_index::TreeIndex;
 use tql_memory::{Memory, memory};
 use tql_period::period::Period;
 
-/// The period of a step. Few starts and lengths, so that periods nest and meet; some reach to the least or the greatest
-/// number.
+/// Returns the period of a step. There are few starts and lengths, so that periods nest and meet. Some periods reach to
+/// the least or the greatest number.
 fn period_of(step: u64) -> Option<Period> {
     let start = (step.wrapping_mul(7919) % 61) as i64 - 30;
     let length = (step.wrapping_mul(104_729) % 13) as i64 + 1;
@@ -21,7 +22,7 @@ fn period_of(step: u64) -> Option<Period> {
     }
 }
 
-/// How many entries are added before the first is refused; none behind it may be taken.
+/// Returns the number of entries that are added before the first is refused. None if a later one is accepted.
 fn added<I: IntervalIndex>(index: &mut I) -> Option<u64> {
     let mut added = 0u64;
     for step in 0u64..20 {
@@ -34,8 +35,8 @@ fn added<I: IntervalIndex>(index: &mut I) -> Option<u64> {
     Some(added)
 }
 
-/// Whether just the entries of the first so many steps are there, once each. It is asked by `remove`, which takes no
-/// memory.
+/// Whether exactly the entries of the first `added` steps are there, once each. This is tested by `remove`, which takes
+/// no memory.
 fn has_just<I: IntervalIndex>(index: &mut I, added: u64) -> Option<bool> {
     for step in 0u64..20 {
         let period = period_of(step)?;
@@ -51,7 +52,7 @@ fn has_just<I: IntervalIndex>(index: &mut I, added: u64) -> Option<bool> {
     Some(true)
 }
 
-/// How many entries an index takes in this memory, if it keeps what it took.
+/// Returns the number of entries that an index accepts in this memory. None if it does not keep them.
 fn kept<I: IntervalIndex>(memory: Memory) -> Option<u64> {
     let mut index = I::new(memory);
     let added = added(&mut index)?;
@@ -80,12 +81,12 @@ fn each_growth_is_refused_in_turn(rt: HostRuntime) -> Result<(), Fail> {
     Ok(())
 }
 
-/// The period of one point.
+/// Returns the period of one point.
 fn unit(rt: &impl Abort, start: i64) -> Period {
     Period::new(start, start.saturating_add(1)).expect(rt, "it rises")
 }
 
-/// By rising starts, 2^10 - 1 entries make a full tree of ten levels.
+/// With rising starts, 2^10 - 1 entries make a full tree of ten levels.
 #[test]
 fn the_tree_stays_shallow(rt: HostRuntime) -> Result<(), Fail> {
     let mut tree = TreeIndex::new(memory(rt.alloc(), u64::MAX)?);

@@ -1,4 +1,4 @@
-//! tql_memory: how many blocks are granted, and how many bytes.
+//! tql_memory: the number of allocations that are granted, and the number of bytes.
 use indexmap::IndexMap;
 use smallvec::SmallVec;
 use std::alloc::AllocError;
@@ -70,7 +70,7 @@ fn fill(held: Held, memory: Memory) -> Result<(), AllocError> {
     }
 }
 
-/// How many blocks each takes. Of a name: the text, and the map's keys, values, buckets and groups of marks.
+/// The number of blocks for each. For a name: the text, and the map's keys, values, buckets and groups of marks.
 const TAKEN: [(Held, u64); 8] = [
     (Held::InABox, 1),
     (Held::Text, 1),
@@ -95,7 +95,7 @@ fn each_growth_is_refused_in_turn(rt: HostRuntime) -> Result<(), Fail> {
     Ok(())
 }
 
-/// How many of ten boxes are granted, each of which is given back at once.
+/// Returns how many of ten boxes can be allocated, each of which is freed at once.
 fn boxes(memory: Memory) -> u64 {
     let mut granted = 0u64;
     for _ in 0..10 {
@@ -106,7 +106,7 @@ fn boxes(memory: Memory) -> u64 {
     granted
 }
 
-/// Grants are set anew, whatever was left, and a block that is given back returns none.
+/// Tests that `grant` replaces what was left, and that freeing a block restores no grant.
 #[test]
 fn grants_are_set_anew(rt: HostRuntime) -> Result<(), Fail> {
     let memory = memory(rt.alloc(), 0)?;
@@ -133,7 +133,7 @@ fn a_failed_growth_leaves_the_list_as_it_was(rt: HostRuntime) -> Result<(), Fail
     Ok(())
 }
 
-/// Exactly one block is refused, and all behind it are granted.
+/// Tests that exactly one block is refused, and all later ones are granted.
 #[test]
 fn one_block_is_refused_alone(rt: HostRuntime) -> Result<(), Fail> {
     let memory = memory(rt.alloc(), u64::MAX)?;
@@ -153,7 +153,7 @@ fn one_block_is_refused_alone(rt: HostRuntime) -> Result<(), Fail> {
     Ok(())
 }
 
-/// How many bytes are in use once a list of five numbers has grown, and once it has shrunk to them.
+/// Returns the bytes in use after a list of five numbers has grown, and after it was shrunk to them.
 fn bytes_of_list(memory: Memory) -> Result<(usize, usize), AllocError> {
     let mut list = Vec::new(memory);
     for number in 0..5u64 {
@@ -164,8 +164,8 @@ fn bytes_of_list(memory: Memory) -> Result<(usize, usize), AllocError> {
     Ok((grown, memory.in_use()))
 }
 
-/// The bytes of a text and of a list are in use as long as these are there: of a list that grows or shrinks, those of
-/// its new size.
+/// Tests that the bytes of a text and of a list are in use while these exist. For a list that grows or shrinks they are
+/// those of its new size.
 #[test]
 fn bytes_are_counted(rt: HostRuntime) -> Result<(), Fail> {
     let memory = memory(rt.alloc(), u64::MAX)?;
@@ -182,7 +182,7 @@ fn bytes_are_counted(rt: HostRuntime) -> Result<(), Fail> {
     Ok(())
 }
 
-/// What goes beyond the bound is refused, and no byte more is in use; what is given back can be had again.
+/// Tests that an allocation beyond the bound fails and uses no bytes, and that freed bytes can be allocated again.
 #[test]
 fn bytes_beyond_the_bound_are_refused(rt: HostRuntime) -> Result<(), Fail> {
     for (most, is_enough) in [
@@ -201,7 +201,7 @@ fn bytes_beyond_the_bound_are_refused(rt: HostRuntime) -> Result<(), Fail> {
     Ok(())
 }
 
-/// A list that may not grow is as it was, and takes what it took.
+/// Tests that a list that cannot grow is unchanged, and has the same bytes in use.
 #[test]
 fn a_list_at_the_bound_is_as_it_was(rt: HostRuntime) -> Result<(), Fail> {
     let memory = memory_within(rt.alloc(), 63)?;

@@ -1,4 +1,4 @@
-//! tql_run: which refused statements a listener is told of, and where they stand.
+//! tql_run: the refused statements that are reported to a listener, and their positions.
 use crate::tests::devices::Lengths;
 use std::test::Fail;
 use tql_detail::place::Place;
@@ -10,10 +10,10 @@ use tql_run::runner::run;
 use tql_run::slice_source::SliceSource;
 use tql_value::refusal::Refusal;
 
-/// A text over three lines, comments, empty pieces and what no `;` ends.
+/// A text over three lines, comments, empty pieces, and a statement that no `;` ends.
 const SCRIPT: &[u8] = b"\n-- one; two\nab;no;\n'\n;\n'; -- \n -- no\n no;\n;;no\n;cd";
 
-/// What is refused in it.
+/// The refusals in it.
 const NOTES: [Note; 3] = [
     Note {
         statement: 2,
@@ -32,7 +32,7 @@ const NOTES: [Note; 3] = [
     },
 ];
 
-/// How much memory is granted to the notes and to the replies, in blocks, and how many bytes are read at once.
+/// The number of allocations for the notes and for the replies, and the number of bytes that are read at once.
 #[derive(Clone, Copy)]
 struct Setting {
     size: usize,
@@ -40,14 +40,14 @@ struct Setting {
     replies: u64,
 }
 
-/// All that is asked for.
+/// No limits.
 const SOUND: Setting = Setting {
     size: usize::MAX,
     notes: u64::MAX,
     replies: u64::MAX,
 };
 
-/// The notes of a run.
+/// Returns the notes of a run.
 fn notes_of(rt: &impl AllocGlobal, script: &[u8], setting: Setting) -> Result<Notes, Fail> {
     let mut lengths = Lengths {
         memory: memory(rt.alloc(), u64::MAX)?,
@@ -71,7 +71,7 @@ fn tells_where_refused_statements_stand(rt: HostRuntime) -> Result<(), Fail> {
     Ok(())
 }
 
-/// The places of what is told beside the refusals of the script, also of its unfinished statement.
+/// The places that are reported with the refusals of the script, including that of its unfinished statement.
 const PLACES: [Place; 3] = [
     Place { line: 3, column: 4 },
     Place { line: 8, column: 2 },

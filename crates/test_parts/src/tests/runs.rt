@@ -1,4 +1,4 @@
-//! tql_run: whole runs, over devices that fail and memory that ends.
+//! tql_run: whole runs, over devices that fail and memory that runs out.
 use crate::tests::devices::Lengths;
 use std::test::Fail;
 use test_devices::{SOUND, Setting};
@@ -9,10 +9,10 @@ use tql_run::runner::{Fault, Summary, run, run_in};
 use tql_run::silence::Silence;
 use tql_run::std_source::StdSource;
 
-/// How a run ended: its counts of statements and of refusals, or its fault.
+/// The end of a run: its numbers of statements and of refusals, or its fault.
 type End = Result<(u64, u64), Fault>;
 
-/// What a run answered, and what it wrote.
+/// The end of a run, and its output.
 #[derive(Drop)]
 struct Outcome {
     end: End,
@@ -69,10 +69,10 @@ const THREE: &str = "INSERT 3\nREFUSED E10 not a statement\nINSERT 5\n";
 const WHOLE: &str =
     "INSERT 3\nREFUSED E10 not a statement\nINSERT 5\nREFUSED E12 unfinished statement\n";
 
-/// A text refused for want of memory.
+/// The reply to a text for which there was no memory.
 const LOST: &str = "REFUSED E01 out of memory\n";
 
-/// A text that no `;` ends.
+/// The reply to a text that no `;` ends.
 const UNFINISHED: &str = "REFUSED E12 unfinished statement\n";
 
 /// Reads of one byte, and of three.
@@ -83,7 +83,7 @@ const BY_THREE: Setting = Setting { size: 3, ..SOUND };
 /// Reads of four bytes.
 const BY_FOUR: Setting = Setting { size: 4, ..SOUND };
 
-/// Flushes that fail from the first on: the one before anything is read.
+/// Flushes that all fail, including the first, which is before anything is read.
 const UNFLUSHED: Setting = Setting {
     flushes: 0,
     ..SOUND
@@ -94,7 +94,7 @@ const CUT: &str = "INSERT 1\nREFUSED E12 unfinished statement\n";
 const NOT_UTF8: &str = "INSERT 1\nREFUSED E11 not UTF-8\n";
 
 const CASES: [(&[u8], Setting, End, &str); 33] = [
-    // a read fails: what was whole before it is answered
+    // a read fails: the statements that were complete before it are answered
     (
         SCRIPT,
         Setting {
@@ -151,7 +151,7 @@ const CASES: [(&[u8], Setting, End, &str); 33] = [
     ),
     (SCRIPT, BY_FOUR, Ok((4, 2)), WHOLE),
     (SCRIPT, SOUND, Ok((4, 2)), WHOLE),
-    // a flush fails: before the first read, behind what was whole in it, and at the end
+    // a flush fails: before the first read, after the statements that were complete in it, and at the end
     (SCRIPT, UNFLUSHED, Err(Fault::Write), ""),
     (b"", UNFLUSHED, Err(Fault::Write), ""),
     (
@@ -181,7 +181,7 @@ const CASES: [(&[u8], Setting, End, &str); 33] = [
         Err(Fault::Write),
         WHOLE,
     ),
-    // no memory for one of the three buffers; a text that they hold asks for none
+    // no memory for one of the three buffers; a text that fits into them needs no more
     (
         SCRIPT,
         Setting {
@@ -227,7 +227,7 @@ const CASES: [(&[u8], Setting, End, &str); 33] = [
         Ok((4, 2)),
         WHOLE,
     ),
-    // what no semicolon ends, read in parts of each size
+    // a text that no semicolon ends, read in parts of each size
     (b"a;b", BY_ONE, Ok((2, 1)), CUT),
     (b"a;b", BY_THREE, Ok((2, 1)), CUT),
     (b"a;b", SOUND, Ok((2, 1)), CUT),
@@ -258,7 +258,7 @@ fn runs_end_and_write(rt: HostRuntime) -> Result<(), Fail> {
 const BAILS: [(&[u8], Setting, End, &str); 8] = [
     (SCRIPT, SOUND, Ok((2, 1)), TWO),
     (SCRIPT, BY_ONE, Ok((2, 1)), TWO),
-    // nothing is read behind the refusal: the read behind it would fail
+    // nothing is read after the refusal: the next read would fail
     (
         SCRIPT,
         Setting {
@@ -277,7 +277,7 @@ const BAILS: [(&[u8], Setting, End, &str); 8] = [
         Err(Fault::Read),
         FIRST,
     ),
-    // the flush behind the refusal fails
+    // the flush after the refusal fails
     (
         SCRIPT,
         Setting {
@@ -287,7 +287,7 @@ const BAILS: [(&[u8], Setting, End, &str); 8] = [
         Err(Fault::Write),
         TWO,
     ),
-    // the last statement is refused, and none is
+    // the last statement is refused; no statement is refused
     (b"a;'b;", SOUND, Ok((2, 1)), CUT),
     (b"a;", SOUND, Ok((1, 0)), "INSERT 1\n"),
     (b"", SOUND, Ok((0, 0)), ""),
@@ -303,7 +303,7 @@ fn a_refusal_stops_a_run(rt: HostRuntime) -> Result<(), Fail> {
     Ok(())
 }
 
-/// A text of more bytes than there is room for at the start is refused where its growth is.
+/// Tests that a text that exceeds the initial buffer is refused if the buffer cannot grow.
 #[test]
 fn long_texts_grow(rt: HostRuntime) -> Result<(), Fail> {
     let script = vec![in rt.alloc(); b'a'; 70_000]?;
@@ -315,8 +315,8 @@ fn long_texts_grow(rt: HostRuntime) -> Result<(), Fail> {
     Ok(())
 }
 
-/// Whether a run whose writes fail behind so many ends so, and has written a beginning of the replies, no shorter than
-/// this; and how much it has written.
+/// Runs a script whose writes fail after the first `writes`. Returns whether the run ends with that fault and has
+/// written a prefix of the replies of at least `shortest` bytes; and the length of that prefix.
 fn cut(rt: &impl AllocGlobal, writes: u64, shortest: usize) -> Result<(bool, usize), Fail> {
     let Outcome { end, text } = run_script(rt, SCRIPT, Setting { writes, ..SOUND })?;
     let is_whole = text.len() == WHOLE.len();

@@ -1,4 +1,4 @@
-//! tql_run: a script that comes in parts is answered as it is whole, and no statement before its `;`.
+//! tql_run: a script that comes in parts has the replies of the whole script, and none before the `;` of its statement.
 use crate::tests::devices::Lengths;
 use std::alloc::AllocError;
 use std::test::Fail;
@@ -8,7 +8,7 @@ use tql_result::reply::Reply;
 use tql_run::session::Session;
 use tql_value::refusal::Refusal;
 
-/// The count of an answer, or its refusal.
+/// The number of rows in an answer, or its refusal.
 type Said = Result<u64, Refusal>;
 
 const SCRIPT: &[u8] = b"abc;no;'a;b'; -- ;\nde";
@@ -20,7 +20,7 @@ const SAID: [Said; 4] = [
     Err(Refusal::UnfinishedStatement),
 ];
 
-/// Parts of a script, and what is answered behind each.
+/// Parts of a script, and the answer after each.
 const PARTS: [(&[u8], Option<Said>); 5] = [
     (b"ab", None),
     (b"c", None),
@@ -42,7 +42,7 @@ fn next(session: &mut Session, responder: &mut Lengths) -> Option<Said> {
     answer.as_ref().map(said)
 }
 
-/// Puts the next answers behind the others.
+/// Appends the next answers to the others.
 fn take_answers(
     session: &mut Session,
     responder: &mut Lengths,
@@ -56,7 +56,7 @@ fn take_answers(
     Ok(())
 }
 
-/// What a script that comes in these parts is answered.
+/// Returns the answers to a script that comes in these parts.
 fn answered(memory: Memory, parts: [&[u8]; 3]) -> Result<Vec<Said, Memory>, AllocError> {
     let mut responder = Lengths { memory };
     let mut session = Session::new(memory)?;

@@ -1,4 +1,4 @@
-//! tql_result: what a sink that fails leaves of a reply, and what it counts.
+//! tql_result: the part of a reply that a failing sink has written, and the failures that it counts.
 use std::alloc::{AllocError, Global};
 use std::test::Fail;
 use test_devices::Kept;
@@ -12,8 +12,8 @@ use tql_value::refusal::Refusal;
 use tql_value::text::Text;
 use tql_value::value::{ResultTable, Value};
 
-/// Whether a reply is pushed to a writer that takes one byte at a time and fails behind so many exactly as this: the
-/// beginning of its text, and one failure unless the text has no more bytes.
+/// Whether a reply is cut correctly by a writer that accepts one byte at a time and fails after `taken` bytes: the
+/// prefix of its text is written, and there is one failure unless the text has no more bytes.
 fn is_cut(alloc: Global, reply: &Reply, text: &[u8], taken: usize) -> bool {
     if !is_printable_reply(reply) {
         return false;
@@ -33,12 +33,12 @@ fn is_cut(alloc: Global, reply: &Reply, text: &[u8], taken: usize) -> bool {
     pushed == is_whole && is_counted && sink.into_writer().bytes.as_slice() == front
 }
 
-/// Whether a reply is cut as it is to be, at each of its bytes, and is whole behind the last.
+/// Whether a reply is cut correctly at each of its bytes, and is complete after the last.
 fn is_cut_anywhere(alloc: Global, reply: &Reply, text: &str) -> bool {
     (0..=text.len()).all(|taken| is_cut(alloc, reply, text.as_bytes(), taken))
 }
 
-/// A table of a row.
+/// Returns a table of one row.
 fn sample(memory: Memory) -> Result<Reply, AllocError> {
     let quotes = Value::Text(Text::copy_of(memory, "it's")?);
     let row = vec![in memory; Value::Null, quotes, Value::Day(-719_162), Value::Moment(1)]?;

@@ -1,4 +1,4 @@
-//! tql_run: a read that is interrupted is made again, and one that fails is counted.
+//! tql_run: a read that is interrupted is repeated, and one that fails is counted.
 use std::test::Fail;
 use test_devices::Chunks;
 use tql_memory::memory;
@@ -7,7 +7,7 @@ use tql_result::vec_sink::VecSink;
 use tql_run::device::{Input, Source};
 use tql_run::std_source::StdSource;
 
-/// What a pull behind a flush gives, and how many pulls have failed.
+/// Returns the byte that a pull after a flush reads, and the number of failed pulls.
 fn pulled(source: &mut StdSource<Chunks<'_>>, sink: &mut VecSink) -> (Option<u8>, u64) {
     let mut buffer = [0u8; 4];
     let byte = match sink.flush() {

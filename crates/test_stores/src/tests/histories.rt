@@ -1,4 +1,4 @@
-//! tql_store: what readings by values find of a history, beside what a reading of all versions finds.
+//! tql_store: the versions that readings by values find in a history, compared with a reading of all versions.
 ghost use Rattle.std.specs.Prelude.{IfOk, IsTrue};
 ghost use Rattle.tql_store.specs.StoreModel.{has_table as table_there, AreRemovable};
 
@@ -15,7 +15,7 @@ use tql_value::value::{Value, View};
 use tql_value::when::When;
 use tql_versions::version::{HIGH, Version};
 
-/// A row for each number below so many: the day of the round and that of the number stand behind it.
+/// Returns a row for each number below `count`: the number, the day of the round and the day of the number.
 fn rows_of(
     memory: Memory,
     count: i64,
@@ -32,7 +32,7 @@ fn rows_of(
     Ok(rows)
 }
 
-/// A change that removes all rows and adds those of the round.
+/// Returns a change that removes all rows and adds those of the round.
 fn renewal(
     memory: Memory,
     store: &Store<TreeIndex>,
@@ -66,7 +66,7 @@ fn is_of(version: &Version<'_>, number: i64, round: Option<i64>) -> bool {
     is_numbered && is_of_round
 }
 
-/// Whether these are the ones with the number, and of the round, among all that were found.
+/// Whether `those` are exactly the versions with the number, and of the round if there is one, among `found`.
 fn are_those(
     found: &[Version<'_>],
     those: &[Version<'_>],
@@ -86,7 +86,7 @@ fn are_those(
         })
 }
 
-/// Whether the versions of every seventh number are found by it, and by it and the day of the first round.
+/// Whether the versions of every seventh number are found by it, and by it together with the day of the first round.
 fn agree(
     store: &Store<TreeIndex>,
     table: TableId,
@@ -111,7 +111,7 @@ fn agree(
     Ok(are_right)
 }
 
-/// Whether they are in each kind of reading.
+/// Whether `agree` holds in each kind of reading.
 fn all_agree(store: &Store<TreeIndex>, table: TableId, count: i64) -> Result<bool, AllocError> {
     Ok(
         agree(store, table, count, When::Now)?
@@ -122,7 +122,7 @@ fn all_agree(store: &Store<TreeIndex>, table: TableId, count: i64) -> Result<boo
     )
 }
 
-/// Renews the rows in the open transaction, where so many growths are granted. Tells whether it was done.
+/// Renews the rows in the open transaction, with `granted` allocations. Returns whether they were enough.
 fn renews(
     rt: &impl Abort,
     memories: (Memory, Memory),
@@ -141,8 +141,8 @@ fn renews(
     Ok(made)
 }
 
-/// Renews the rows in a transaction of the round, where so many growths are granted at first, and all after that. Tells
-/// whether the first try was made, and whether all that was found after each step was right.
+/// Renews the rows in a transaction of the round, with `granted` allocations in a first try, and without limit in a
+/// second. Returns whether the first try succeeded, and whether the readings after each step were right.
 fn transacts(
     rt: &impl Abort,
     memories: (Memory, Memory),
@@ -170,8 +170,8 @@ fn transacts(
     Ok((made, all_agree(store, table, count)? && are_right))
 }
 
-/// Whether all is right in a new store over five rounds, of which the fourth is granted so many growths at first, and
-/// is undone or kept. Tells whether it was refused none.
+/// Runs five rounds in a new store. The fourth has `granted` allocations at first, and is rolled back or kept. Returns
+/// whether no allocation failed, and whether all readings were right.
 fn is_right(
     rt: &impl Abort,
     memories: (Memory, Memory),

@@ -1,4 +1,4 @@
-//! tql_store: what a horizon leaves of a history, at once and later, and each growth of it refused in turn.
+//! tql_store: the versions that a horizon leaves, at once and later, with each allocation made to fail, in order.
 ghost use Rattle.std.specs.Prelude.{IfOk, IsTrue};
 ghost use Rattle.tql_store.specs.StoreModel.{has_table as table_there, AreRemovable};
 
@@ -16,7 +16,7 @@ use tql_value::value::{Value, View};
 use tql_value::when::When;
 use tql_versions::version::HIGH;
 
-/// A change that removes all rows and adds one of the number.
+/// Returns a change that removes all rows and adds one of the number.
 fn renewal(
     memory: Memory,
     store: &Store<TreeIndex>,
@@ -37,7 +37,7 @@ fn renewal(
     })
 }
 
-/// Renews the row of a table at the moment, by the moment's number.
+/// Renews the row of a table at the moment. The new row has the moment as its number.
 fn renew(
     rt: &impl Abort,
     all: Memory,
@@ -52,7 +52,7 @@ fn renew(
     Ok(())
 }
 
-/// A table more, whose rows are found by its first column, and by the second with it.
+/// Adds a table whose rows are found by its first column, and by the second with the first.
 fn add(
     rt: &impl Abort,
     all: Memory,
@@ -88,7 +88,7 @@ fn keeps(store: &Store<TreeIndex>, table: TableId, those: &[Shown]) -> Result<bo
     Ok(are_right)
 }
 
-/// Checks that it has.
+/// Asserts that the table has these versions and no others.
 fn check_kept(
     rt: &impl Abort,
     store: &Store<TreeIndex>,
@@ -147,8 +147,8 @@ fn a_horizon_leaves_what_ends_after_it(rt: HostRuntime) -> Result<(), Fail> {
     Ok(())
 }
 
-/// Makes a history of two tables in this memory, prunes it with so many growths granted, and tells whether that was
-/// done and whether what is there is right.
+/// Makes a history of two tables in this memory, and prunes it with `granted` allocations. Returns whether that was
+/// done, and whether the remaining versions are right.
 fn prunes_both(
     rt: &impl Abort,
     all: Memory,
@@ -196,7 +196,7 @@ fn all_tables_are_pruned_or_none(rt: HostRuntime) -> Result<(), Fail> {
             refused = granted;
         }
     }
-    // Ten growths are those of the first table, so the second one's were refused too.
+    // The first table makes ten allocations, so those of the second one were refused too.
     assert!(rt; done && refused > 10);
     Ok(())
 }

@@ -1,4 +1,4 @@
-//! tql_store: a short history, run with each growth refused in turn.
+//! tql_store: a short history, run with each allocation made to fail, in order.
 ghost use Rattle.std.specs.Prelude.{◌≡◌, [], map, IfOk, IsTrue};
 ghost use Rattle.tql_store.specs.StoreModel.{has_table as table_there, AreRemovable};
 
@@ -21,7 +21,7 @@ use tql_versions::version::{HIGH, Version};
 /// The number in a row, its start and its end.
 pub type Shown = (i64, i64, i64);
 
-/// What a test looks at of a version.
+/// Returns the parts of a version that a test compares.
 pub fn shown(version: &Version<'_>) -> Shown {
     let number = match version.row.first() {
         Some(Value::Int(number)) => *number,
@@ -30,7 +30,8 @@ pub fn shown(version: &Version<'_>) -> Shown {
     (number, version.start, version.end)
 }
 
-/// Whether a reading finds at most one version, the right one, or is refused where memory may be.
+/// Whether a reading finds exactly the wanted version, or no version if none is wanted. If memory is not ample, the
+/// reading may also fail.
 fn finds(
     ample: bool,
     found: Result<Vec<Version<'_>, Memory>, AllocError>,
@@ -42,7 +43,7 @@ fn finds(
     }
 }
 
-/// A row of the number: a day of that number and the tenth after it stand behind it.
+/// Returns a row of the number: the number, the day of that number and the tenth day after it.
 pub fn row_of(memory: Memory, number: i64) -> Result<Vec<Value, Memory>, Refusal> {
     let mut row = Vec::new(memory);
     row.push(Value::Int(number))?;
@@ -51,7 +52,7 @@ pub fn row_of(memory: Memory, number: i64) -> Result<Vec<Value, Memory>, Refusal
     Ok(row)
 }
 
-/// A change that adds a row of the number.
+/// Returns a change that adds a row of the number.
 fn insertion(memory: Memory, table: TableId, number: i64) -> Result<Delta, Refusal>
     ensures none { IfOk result (λ d. d.removed.items ≡ []) }
 {
@@ -65,7 +66,7 @@ fn insertion(memory: Memory, table: TableId, number: i64) -> Result<Delta, Refus
     })
 }
 
-/// The ids of the versions.
+/// Returns the ids of the versions.
 fn ids_of(memory: Memory, found: &[Version<'_>]) -> Result<Vec<usize, Memory>, Refusal>
     ensures { IfOk result (λ ids. ids.items ≡ map (λ v. v.id) found.now) }
 {
@@ -76,7 +77,7 @@ fn ids_of(memory: Memory, found: &[Version<'_>]) -> Result<Vec<usize, Memory>, R
     Ok(ids)
 }
 
-/// The ids of all current rows.
+/// Returns the ids of all current rows.
 pub fn current_ids<I: IntervalIndex>(
     memory: Memory,
     store: &Store<I>,
@@ -90,7 +91,7 @@ pub fn current_ids<I: IntervalIndex>(
     Ok(ids)
 }
 
-/// A change that removes all rows.
+/// Returns a change that removes all rows.
 fn removal<I: IntervalIndex>(
     memory: Memory,
     store: &Store<I>,
@@ -108,7 +109,7 @@ fn removal<I: IntervalIndex>(
     })
 }
 
-/// Makes a change in a transaction of its own, and tells whether it was made and kept.
+/// Makes a change in a transaction of its own, and returns whether it was made and kept.
 pub fn transact<I: IntervalIndex>(
     rt: &impl Abort,
     store: &mut Store<I>,
@@ -130,8 +131,8 @@ pub fn transact<I: IntervalIndex>(
     made && keep
 }
 
-/// Adds a row at 10, adds one in a transaction that is undone at 20, and removes all at 30. Tells which of the
-/// first and the last were made.
+/// Adds a row at 10, adds one in a transaction that is rolled back at 20, and removes all at 30. Returns whether the
+/// first and the last change were made.
 fn run<I: IntervalIndex>(
     rt: &impl Abort,
     ample: Memory,
@@ -150,7 +151,7 @@ fn run<I: IntervalIndex>(
     Ok((inserted, removed))
 }
 
-/// Whether the history of a versioned table has a version from 10 on, which ends where it is no longer current.
+/// Whether the history of a versioned table has the version that began at 10, until it is no longer current.
 fn has_history<I: IntervalIndex>(
     ample: bool,
     store: &Store<I>,
@@ -199,7 +200,7 @@ fn has_values<I: IntervalIndex>(
         )
 }
 
-/// Whether they are found by the period that begins at day 7 and ends before day 17.
+/// Whether the current rows are found by the period that begins at day 7 and ends before day 17.
 fn has_period<I: IntervalIndex>(
     ample: bool,
     store: &Store<I>,
@@ -221,7 +222,7 @@ fn has_period<I: IntervalIndex>(
         && finds(ample, store.sharing(table, (2, 1), sharing), None)
 }
 
-/// Whether they are found by a value and that period at once, and by no other value or period.
+/// Whether the current rows are found by a value together with that period, and by no other value or period.
 fn has_values_in<I: IntervalIndex>(
     ample: bool,
     store: &Store<I>,
@@ -328,7 +329,7 @@ fn names_rows<I: IntervalIndex>(
     }
 }
 
-/// Whether the store has what `run` leaves, where both of its changes or only the first was made, or none.
+/// Whether the store has the versions that `run` leaves, by which of its two changes were made.
 fn is_left<I: IntervalIndex>(
     store: &Store<I>,
     table: TableId,
@@ -354,7 +355,7 @@ fn is_left<I: IntervalIndex>(
                 && has_history_of(ample, store, table, old, current))
 }
 
-/// Removes the table, if it can be, and tells whether none is left.
+/// Removes the table, if it can be removed, and returns whether no table is left.
 fn drops<I: IntervalIndex>(store: &mut Store<I>, table: TableId) -> bool {
     if !store.has_table(table) || store.has_transaction() {
         return false;
@@ -363,7 +364,7 @@ fn drops<I: IntervalIndex>(store: &mut Store<I>, table: TableId) -> bool {
     store.table_count() == 0
 }
 
-/// The lists of columns by which rows are found: the first, and the second with the first.
+/// Returns the lists of columns by which rows are found: the first, and the second with the first.
 pub fn lists(memory: Memory) -> Result<Vec<Vec<usize, Memory>, Memory>, Refusal> {
     let mut one = Vec::new(memory);
     one.push(0)?;
@@ -376,7 +377,7 @@ pub fn lists(memory: Memory) -> Result<Vec<Vec<usize, Memory>, Memory>, Refusal>
     Ok(lists)
 }
 
-/// Whether the whole history of a new store, whose memory is ample or not, is as it should be.
+/// Whether the whole history of a new store, whose memory is ample or not, is right.
 fn is_right<I: IntervalIndex>(
     rt: &impl Abort,
     mut store: Store<I>,
@@ -396,7 +397,7 @@ fn is_right<I: IntervalIndex>(
     }
 }
 
-/// Whether it is with a tree of periods, or with a list of them.
+/// Whether the history is right in a store with a tree of periods, or with a list of them.
 fn is_right_of(
     rt: &impl Abort,
     tree: bool,

@@ -101,7 +101,7 @@ impl<I: IntervalIndex> Engine<I> {
         Ok(Some(kinds))
     }
 
-    /// Returns them if the statement is a query or a READ, and none for any other statement.
+    /// Returns the kinds of the columns if the statement is a query or a READ. None for any other statement.
     fn kinds_in(&self, statement: &Statement<'_>) -> Result<Option<Vec<Kind, Memory>>, Refusal>
         requires narrow { IsFalse (is_too_wide (statement_of statement.now)) }
         ensures { (s : State) → StandsFor self.now s → TellsKinds s (statement_of statement.now) result }

@@ -1,5 +1,5 @@
-//! Details of refused statements that depend on rows or on the state of the engine. A refused statement changed
-//! nothing, so it is bound and its rows are made again, and the tests are asked where they failed.
+//! Details of refused statements that depend on rows or on the state of the engine. A refused statement changes
+//! nothing. So it is bound and its rows are computed again, and the failed tests are repeated.
 ghost use Rattle.std.specs.Prelude.{◌<◌, length};
 
 use crate::engine::Engine;
@@ -32,7 +32,7 @@ use tql_value::refusal::Refusal;
 use tql_value::value::Value;
 use tql_value::when::When;
 
-/// How a detail names a row that comes: by its number, where it is one of an INSERT.
+/// Returns how a detail names a new row: by its number in an INSERT.
 fn subject(is_insert: bool, row: usize) -> Subject {
     if is_insert {
         Subject::Numbered(row)
@@ -52,7 +52,7 @@ impl<I: IntervalIndex> Engine<I> {
     ghost use Rattle.tql_syntax_tree.specs.Statements.{statement_of};
     ghost use Rattle.tql_engine_state.specs.Allowed.{AsksWithin, IsAllowed};
 
-    /// The detail of the first row that fails by itself (E30 and E32 to E34).
+    /// Returns the detail of the first row that fails by itself (E30 and E32 to E34).
     fn fault_of(
         &self,
         table: &Table,
@@ -68,7 +68,7 @@ impl<I: IntervalIndex> Engine<I> {
         fault_detail(self.memory, subject, cells, failure.failed)
     }
 
-    /// The cells of the row that a row clashes with, and which row it is.
+    /// Returns the cells of the row that a row clashes with, and which row it is.
     fn rival<'a>(
         &'a self,
         table: &'a Table,
@@ -97,7 +97,7 @@ impl<I: IntervalIndex> Engine<I> {
         }
     }
 
-    /// The detail of the first key that fails (E35).
+    /// Returns the detail of the first key that fails (E35).
     fn key_fault(&self, place: usize, delta: &Delta, is_insert: bool) -> Option<Detail>
         requires within { place < length self.now.tables }
     {
@@ -112,7 +112,7 @@ impl<I: IntervalIndex> Engine<I> {
         key_detail(self.memory, subject, cells, failure.key, rival)
     }
 
-    /// The detail of the first reference that fails (E36).
+    /// Returns the detail of the first reference that fails (E36).
     fn reference_fault(&self, place: usize, delta: &Delta, is_insert: bool) -> Option<Detail>
         requires within { place < length self.now.tables }
     {
@@ -144,7 +144,7 @@ impl<I: IntervalIndex> Engine<I> {
         }
     }
 
-    /// The detail of a change whose rows do not fail by themselves.
+    /// Returns the detail of a change none of whose rows fails by itself.
     fn change_fault(
         &self,
         place: usize,
@@ -161,7 +161,7 @@ impl<I: IntervalIndex> Engine<I> {
         }
     }
 
-    /// The detail of rows that an INSERT adds.
+    /// Returns the detail of rows that an INSERT adds.
     fn added_fault(
         &self,
         place: usize,
@@ -183,7 +183,7 @@ impl<I: IntervalIndex> Engine<I> {
         self.change_fault(place, &delta, true, refusal)
     }
 
-    /// The detail of an INSERT of tuples.
+    /// Returns the detail of an INSERT of tuples.
     fn insertion_fault(&self, insertion: &Insertion, refusal: Refusal) -> Option<Detail>
         requires within { insertion.now.table < length self.now.tables }
     {
@@ -199,7 +199,7 @@ impl<I: IntervalIndex> Engine<I> {
         self.added_fault(insertion.table, rows, refusal)
     }
 
-    /// The detail of a query that cannot be calculated.
+    /// Returns the detail of a query that cannot be calculated.
     fn calculation_fault(&self, query: &BoundQuery, refusal: Refusal) -> Option<Detail> {
         if refusal != Refusal::ValueOutOfRange {
             return None;
@@ -207,7 +207,7 @@ impl<I: IntervalIndex> Engine<I> {
         query_detail(self.memory, query)
     }
 
-    /// The detail of an INSERT from a query.
+    /// Returns the detail of an INSERT from a query.
     fn query_fault(&self, insertion: &QueryInsertion, refusal: Refusal) -> Option<Detail>
         requires within { insertion.now.table < length self.now.tables }
         requires placed { IsPlacedQuery (definitions_of self.now.tables) (bound_query_of insertion.now.query) }
@@ -223,7 +223,7 @@ impl<I: IntervalIndex> Engine<I> {
         }
     }
 
-    /// The rows that an UPDATE or DELETE adds.
+    /// Returns the rows that an UPDATE or DELETE adds.
     fn touched_rows(
         &self,
         modification: &Modification,
@@ -242,7 +242,7 @@ impl<I: IntervalIndex> Engine<I> {
         modified_rows(self.memory, table, &seen, modification)
     }
 
-    /// The detail of an UPDATE or DELETE.
+    /// Returns the detail of an UPDATE or DELETE.
     fn modification_fault(&self, modification: &Modification, refusal: Refusal) -> Option<Detail>
         requires within { modification.now.table < length self.now.tables }
     {
@@ -256,7 +256,7 @@ impl<I: IntervalIndex> Engine<I> {
         }
     }
 
-    /// The detail of the rows of a bound statement.
+    /// Returns the detail of the rows of a bound statement.
     fn bound_fault(&self, bound: &Bound, refusal: Refusal) -> Option<Detail>
         requires sound { IsSound (definitions_of self.now.tables) bound.now }
         requires allowed { IsAllowed self.now bound.now }
@@ -271,7 +271,7 @@ impl<I: IntervalIndex> Engine<I> {
         }
     }
 
-    /// The detail of the rows of a statement that the transaction, the clock and open readers allow.
+    /// Returns the detail of the rows of a statement that the transaction, the clock and open readers allow.
     fn statement_fault(
         &self,
         statement: &Statement<'_>,
@@ -288,8 +288,8 @@ impl<I: IntervalIndex> Engine<I> {
         }
     }
 
-    /// The detail of a statement that is refused for its rows (E30 and E32 to E36): the row, the column or the
-    /// constraint, and the values. None where it is refused for something else, or no memory is there for it.
+    /// Returns the detail of a statement that is refused for its rows (E30 and E32 to E36): the row, the column or the
+    /// constraint, and the values. None if it is refused for something else, or if an allocation is refused.
     pub(super) fn row_detail(&self, text: &[u8], refusal: Refusal) -> Option<Detail> {
         match read_statement(self.memory, text) {
             Ok(tree) => self.statement_fault(&tree.statement, refusal).ok()?,
@@ -297,7 +297,7 @@ impl<I: IntervalIndex> Engine<I> {
         }
     }
 
-    /// The detail of a reader that is open, or is not, against what a statement wants (E46).
+    /// Returns the detail of a reader that is open but must not be, or the reverse (E46).
     fn reader_fault(&self, text: &[u8]) -> Option<Detail> {
         let tree = read_statement(self.memory, text).ok()?;
         let (name, opens) = match &tree.statement {
@@ -313,8 +313,8 @@ impl<I: IntervalIndex> Engine<I> {
         reader_detail(self.memory, name.as_str(), opens, is_open)
     }
 
-    /// The detail that the state of the engine gives to a refused statement (E40, E41 and E45 to E47). None for any
-    /// other refusal, or where no memory is there for it.
+    /// Returns the detail that the state of the engine gives to a refused statement (E40, E41 and E45 to E47). None for
+    /// any other refusal, or if an allocation is refused.
     pub(super) fn state_detail(&self, text: &[u8], refusal: Refusal) -> Option<Detail> {
         match refusal {
             Refusal::NotInThisTransactionState => {

@@ -42,7 +42,7 @@ impl<I: IntervalIndex> Engine<I> {
         answer_rows(self.memory, &shown, &plan)
     }
 
-    /// Returns these rows with their headings, from a snapshot of the store.
+    /// Returns the rows that a query answers from a snapshot of the store, in the same order, with their headings.
     pub(super) fn answered(
         &self,
         shown: &Snapshot<'_, I>,

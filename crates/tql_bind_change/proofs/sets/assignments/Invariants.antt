@@ -6,7 +6,7 @@ use Rattle.tql_bind_change.specs.Cells.{HasAssigned}
 use Rattle.tql_bind_change.proofs.Growing.{EachGrows}
 use Rattle.tql_bind_change.proofs.sets.assignments.Given as goal
 
--- the assignments so far and those that are left
+-- the assignments so far and the remaining ones
 abbrev pub invariant-loop-set : goal.invariant-loop-set
 invariant-loop-set l =
     EachGrows bound.assignment_of HasAssigned (assignment l.definition)

@@ -6,7 +6,7 @@ use Rattle.tql_bind_change.specs.Cells.{HasValue}
 use Rattle.tql_bind_change.proofs.Growing.{EachGrows}
 use Rattle.tql_bind_change.proofs.tuples.cells.Given as goal
 
--- the cells so far and those that are left
+-- the cells so far and the remaining ones
 abbrev pub invariant-loop-written : goal.invariant-loop-written
 invariant-loop-written l =
     EachGrows typed_of HasValue (cell []) (cell_of l.tuple.first ∷ cells_of l.tuple.more) l.fn.terms l.fn.faults

@@ -7,7 +7,7 @@ use Rattle.tql_bind_change.specs.Cells.{HasValues}
 use Rattle.tql_bind_change.proofs.Growing.{EachGrows}
 use Rattle.tql_bind_change.proofs.tuples.tuples.Given as goal
 
--- the tuples so far and those that are left
+-- the tuples so far and the remaining ones
 abbrev pub invariant-loop-written : goal.invariant-loop-written
 invariant-loop-written l =
     EachGrows bound.tuple_of HasValues (tuple (map plain_kind l.kinds)) (tuple_of l.first ∷ map tuple_of l.more)

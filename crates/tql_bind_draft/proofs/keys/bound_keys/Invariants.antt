@@ -4,7 +4,7 @@ use Rattle.tql_bind_expr.proofs.Gathering.{EachLeads}
 use Rattle.tql_bind_draft.specs.Drafts.{key_part, written_of, key_in}
 use Rattle.tql_bind_draft.proofs.keys.bound_keys.Given as goal
 
--- the keys so far and those that are left
+-- the keys so far and the remaining ones
 abbrev pub invariant-loop-key : goal.invariant-loop-key
 invariant-loop-key l =
     EachLeads (key_in (written_of l.draft) (map application_of l.applications)) (map key_part l.keys) l.fn.faults

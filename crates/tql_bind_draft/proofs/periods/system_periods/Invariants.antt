@@ -4,7 +4,7 @@ use Rattle.tql_bind_expr.proofs.Gathering.{EachLeads}
 use Rattle.tql_bind_draft.specs.Drafts.{column_of, system_part, system_in}
 use Rattle.tql_bind_draft.proofs.periods.system_periods.Given as goal
 
--- the periods so far and those that are left
+-- the periods so far and the remaining ones
 abbrev pub invariant-loop-period : goal.invariant-loop-period
 invariant-loop-period l =
     EachLeads (system_in (map column_of l.columns)) (map system_part l.periods) l.fn.faults

@@ -4,7 +4,7 @@ use Rattle.tql_syntax_tree.specs.Statements.{chain_of}
 use Rattle.tql_bind_query.proofs.ChainLaws.{ChainsLead}
 use Rattle.tql_bind_query.proofs.from.chains.Given as goal
 
--- the chains so far and those that are left
+-- the chains so far and the remaining ones
 abbrev pub invariant-loop-written : goal.invariant-loop-written
 invariant-loop-written l = record {
   counted : length l.all.items ≡ l.written-index + 1;

@@ -6,7 +6,7 @@ use Rattle.tql_syntax_tree.specs.Statements.{order_of}
 use Rattle.tql_bind_expr.proofs.Gathering.{EachLeads}
 use Rattle.tql_bind_query.proofs.ordering.order_keys.Given as goal
 
--- the keys so far and those that are left
+-- the keys so far and the remaining ones
 abbrev pub invariant-loop-index : goal.invariant-loop-index
 invariant-loop-index l =
     EachLeads (order_key (map string_bytes l.headings)) (map order_of l.keys) l.fn.faults

@@ -1,4 +1,4 @@
--- Among sorted headings those of the name are at its places.
+-- The sorted headings of a name have its indexes.
 use Rattle.std.proofs.Common.{◌∙◌, ap, sym, map}
 use Rattle.tql_spec.specs.Binding.{only_place}
 use Rattle.tql_bind_query.specs.Headed.{place_in}

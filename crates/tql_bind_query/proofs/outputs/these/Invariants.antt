@@ -6,7 +6,7 @@ use Rattle.tql_bind_query.specs.Shown.{shown}
 use Rattle.tql_bind_query.proofs.ShownLaws.{ItemsLead}
 use Rattle.tql_bind_query.proofs.outputs.these.Given as goal
 
--- the items so far and those that are left
+-- the items so far and the remaining ones
 abbrev pub invariant-loop-item : goal.invariant-loop-item
 invariant-loop-item l =
     ItemsLead (scope_of l.scope) (shown (scope_of l.scope) (TheseItems (item_of l.first) (map item_of l.more)))

@@ -1,4 +1,4 @@
--- A stable sort leaves each name at its places.
+-- A stable sort keeps the indexes of each name in order.
 use Rattle.std.proofs.Common.{rules, map}
 use Rattle.std.specs.Prelude.{string_bytes}
 use Rattle.std.proofs.lemmas.Cmp.{nat_list_cmp_total}

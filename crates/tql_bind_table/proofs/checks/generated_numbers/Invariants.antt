@@ -5,7 +5,7 @@ use Rattle.tql_bind_draft.specs.Drafts.{column_of}
 use Rattle.tql_bind_table.specs.NewTables.{generated_in}
 use Rattle.tql_bind_table.proofs.checks.generated_numbers.Given as goal
 
--- the numbers so far and those among the rest are those of all
+-- the numbers so far and those among the remaining columns are all
 abbrev pub invariant-loop-number : goal.invariant-loop-number
 invariant-loop-number l =
     l.numbers.items

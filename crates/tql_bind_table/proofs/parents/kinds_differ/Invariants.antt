@@ -3,7 +3,7 @@ use Rattle.tql_spec.specs.Creation.{kinds_differ, kinds_at, kinds_of}
 use Rattle.tql_bind_draft.specs.Drafts.{column_of, kinds_in}
 use Rattle.tql_bind_table.proofs.parents.kinds_differ.Given as goal
 
--- those that are left tell what all tell
+-- the remaining columns decide the result
 abbrev pub invariant-loop-number : goal.invariant-loop-number
 invariant-loop-number l =
     kinds_differ (kinds_at (kinds_in (map column_of l.columns)) (drop l.number-index l.numbers))

@@ -6,7 +6,7 @@ use Rattle.tql_bind_table.specs.NewTables.{reference_in}
 use Rattle.tql_bind_table.proofs.Sequences.{FlatLeads}
 use Rattle.tql_bind_table.proofs.references.bound_references.Given as goal
 
--- the references so far and those that are left
+-- the references so far and the remaining ones
 abbrev pub invariant-loop-reference : goal.invariant-loop-reference
 invariant-loop-reference l =
     FlatLeads (reference_in (definitions_of l.tables) (written_of l.draft) (map application_of l.applications))

@@ -8,7 +8,7 @@ use Rattle.tql_versions.specs.Views.{versions_of}
 use Rattle.tql_exec.specs.Found.{completed}
 use Rattle.tql_exec.proofs.reading.passing_open.Given as goal
 
--- invariant: the rows so far, and those that pass of the versions left, are all that pass
+-- invariant: the rows so far, followed by the passing rows of the remaining versions, are all passing rows
 abbrev pub invariant-loop-id : goal.invariant-loop-id
 invariant-loop-id l =
     let conds = map (cond l.terms) l.filter in

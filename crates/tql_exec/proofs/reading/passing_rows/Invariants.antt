@@ -7,7 +7,7 @@ use Rattle.tql_versions.specs.Readings.{version_shown as version_of}
 use Rattle.tql_exec.specs.Found.{completed}
 use Rattle.tql_exec.proofs.reading.passing_rows.Given as goal
 
--- invariant: the rows so far, and those that pass of the versions left, are all that pass
+-- invariant: the rows so far, followed by the passing rows of the remaining versions, are all passing rows
 abbrev pub invariant-loop-version : goal.invariant-loop-version
 invariant-loop-version l =
     let conds = map (cond l.terms) l.filter in

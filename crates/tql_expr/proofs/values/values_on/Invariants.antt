@@ -6,7 +6,7 @@ use Rattle.tql_expr.specs.Meaning.{expr}
 use Rattle.tql_value.specs.Views.{row_of}
 use Rattle.tql_expr.proofs.values.values_on.Given as goal
 
--- the values so far, before those of the expressions that are left, are those of all
+-- the values so far, followed by those of the remaining expressions, are the values of all
 abbrev pub invariant-loop-expr : goal.invariant-loop-expr
 invariant-loop-expr g l =
     let value = eval (g.C.Columns.group l.columns) (g.C.Columns.values l.columns) in

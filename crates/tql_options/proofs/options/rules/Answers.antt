@@ -1,4 +1,4 @@
--- The command that is built, call by call, is the one of the definitions.
+-- The command that is built call by call is the one of the definitions.
 use Rattle.std.proofs.Common.{ap, ap₂, ◌∙◌}
 use Rattle.clap.specs.Simple.{app_of_fields}
 use Rattle.clap.specs.Words.{with_rule}

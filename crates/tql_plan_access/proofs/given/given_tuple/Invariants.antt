@@ -4,7 +4,7 @@ use Rattle.tql_expr.specs.Meaning.{cond}
 use Rattle.tql_plan_access.specs.Access.{value_or_null}
 use Rattle.tql_plan_access.proofs.given.given_tuple.Given as goal
 
--- the values so far, and those of the columns that are left
+-- the values so far, followed by those of the remaining columns
 abbrev pub invariant-loop-column : goal.invariant-loop-column
 invariant-loop-column l =
     map (value_or_null (map (cond l.terms) l.conjuncts)) l.columns

@@ -6,7 +6,7 @@ use Rattle.tql_catalog.specs.Sought.{key_columns}
 use Rattle.tql_plan_access.specs.Access.{are_marked}
 use Rattle.tql_plan_access.proofs.given.marked_key.Given as goal
 
--- the first of those that are left is the first of all
+-- the first marked key of the remaining keys is the first of all keys
 abbrev pub invariant-loop-key : goal.invariant-loop-key
 invariant-loop-key l =
     find (are_marked l.marks) (map (λ (k : Key). k.columns) (map key_of (drop l.key-index l.key-items)))

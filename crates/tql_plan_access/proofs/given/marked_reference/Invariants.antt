@@ -6,7 +6,7 @@ use Rattle.tql_catalog.specs.Sought.{reference_columns}
 use Rattle.tql_plan_access.specs.Access.{are_marked}
 use Rattle.tql_plan_access.proofs.given.marked_reference.Given as goal
 
--- the first of those that are left is the first of all
+-- the first marked reference of the remaining references is the first of all references
 abbrev pub invariant-loop-reference : goal.invariant-loop-reference
 invariant-loop-reference l =
     find (are_marked l.marks)

@@ -6,7 +6,7 @@ use Rattle.tql_value.specs.Views.{row_of}
 use Rattle.tql_result.proofs.Pushing.{joined, ended, as_text}
 use Rattle.tql_result_forms.proofs.jsonl.push_object.Goals as goal
 
--- the line of an object, by its members
+-- the line of an object, split into its members and its ends
 line_parts : (members : List ℕ) → 123 ∷ (members ++ (125 ∷ 10 ∷ [])) ≡ line (123 ∷ (members ++ (125 ∷ [])))
 line_parts members = ap (λ l. 123 ∷ l) (sym (append_assoc members (125 ∷ []) (10 ∷ [])))
 

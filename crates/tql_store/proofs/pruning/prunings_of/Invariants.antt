@@ -3,7 +3,7 @@ use Rattle.tql_store_rows.specs.Pruned.{IsPruning}
 use Rattle.tql_store.specs.Orderly.{pruning_at, table_at}
 use Rattle.tql_store.proofs.pruning.prunings_of.Given as goal
 
--- of each table so far it is known
+-- the new indexes of the tables so far are right
 abbrev pub invariant-loop-table : goal.invariant-loop-table
 invariant-loop-table g l = record {
   even : length l.prunings.items ≡ l.table-index;

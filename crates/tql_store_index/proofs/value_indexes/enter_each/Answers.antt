@@ -10,7 +10,7 @@ use Rattle.tql_store_index.proofs.Linking.{Entered, entered_at, entered_turned, 
 use Rattle.tql_store_index.proofs.value_indexes.enter_each.Given as given
 use Rattle.tql_store_index.proofs.value_indexes.enter_each.Goals as goal
 
--- the index that is next is as it was
+-- the next index has not changed
 next : (g : given.Over) (c : goal.After-index-indexes-i g)
     → slice_index_or c.loop-i.indexes c.loop-i.i c.index-indexes-i.result ≡ index_at c.args.indexes.now c.loop-i.i
 next g c =

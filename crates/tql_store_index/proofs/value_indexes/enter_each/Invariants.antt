@@ -5,7 +5,7 @@ use Rattle.tql_store_index.specs.Basis.{filed}
 use Rattle.tql_store_index.proofs.Linking.{HaveTurned, Entered}
 use Rattle.tql_store_index.proofs.value_indexes.enter_each.Given as goal
 
--- in so many of them the row stands
+-- the row was entered in the first i indexes
 abbrev pub invariant-loop-i : goal.invariant-loop-i
 invariant-loop-i g l = HaveTurned (Entered l.place (filed (map datum_of_value l.row) (points_of l.during)) l.seats) l.i
     l.fn.indexes l.indexes

@@ -1,4 +1,4 @@
--- Each turn of the list loop reads what the step gives; the last leaves nothing to be read.
+-- Each turn of the list loop reads what the step reads; the last turn leaves no item to read.
 use Rattle.std.proofs.Common.{rules, arith}
 use Rattle.std.proofs.lemmas.Grind.{common_steps}
 use Rattle.tql_syntax_grammar.specs.Outcome.{repeated}

@@ -1,4 +1,4 @@
--- What is to be read in all is what the turns that are left read behind the items that were found.
+-- The whole list is what the remaining turns read, appended to the items found so far.
 use Rattle.std.proofs.Common.{◌≡◌, ◌-◌, map}
 use Rattle.tql_syntax_grammar.specs.Outcome.{more, repeated}
 use Rattle.tql_syntax_expr.proofs.lists.extended.Given as goal

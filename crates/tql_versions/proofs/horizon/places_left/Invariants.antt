@@ -5,7 +5,7 @@ use Rattle.tql_versions.specs.Places.{versions_at}
 use Rattle.tql_versions.specs.Views.{versions_of}
 use Rattle.tql_versions.proofs.horizon.places_left.Given as goal
 
--- the versions left so far, and those that come, are all
+-- the versions kept so far, and those kept of the rest, are all that the horizon keeps
 abbrev pub invariant-loop-place : goal.invariant-loop-place
 invariant-loop-place l = record {
   within : All (λ i. i < length l.versions) l.places.items;

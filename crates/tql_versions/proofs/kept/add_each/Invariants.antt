@@ -8,11 +8,11 @@ use Rattle.tql_versions.specs.Changes.{fresh}
 use Rattle.tql_versions.specs.Views.{versions_of}
 use Rattle.tql_versions.proofs.kept.add_each.Given as goal
 
--- the versions of new rows
+-- the versions of the new rows
 abbrev pub fresh_versions : {A : Type 0} → ℤ → List (Vec Value A) → List Version
 fresh_versions moment rows = map (λ row. fresh moment (map datum_of_value row.items)) rows
 
--- what was added and what is left is all; there is room for what is left
+-- the versions added so far, and those of the rest, are all; there is room for the rest
 abbrev pub invariant-loop-row : goal.invariant-loop-row
 invariant-loop-row l = record {
   slots : versions_of l.versions.items ++ fresh_versions l.moment (into_iter_items l.row-iterator) ≡ versions_of

@@ -4,7 +4,7 @@ use Rattle.tql_versions.specs.Changes.{emptied, taken}
 use Rattle.tql_versions.specs.Views.{versions_of}
 use Rattle.tql_versions.proofs.kept.retire.Given as goal
 
--- what is taken now and from the places that are left is all that is taken
+-- the versions taken so far, and those at the remaining positions, are all that are taken
 abbrev pub invariant-loop-place : goal.invariant-loop-place
 invariant-loop-place l = record {
   left : emptied l.moment (drop l.place-index l.places) (versions_of l.versions) ≡ emptied l.moment l.places

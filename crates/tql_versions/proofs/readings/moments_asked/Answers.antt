@@ -7,7 +7,7 @@ use Rattle.tql_versions.specs.Readings.{sought}
 use Rattle.tql_versions.proofs.readings.moments_asked.Goals as goal
 use Rattle.tql_versions.proofs.readings.moments_asked.Goals.{in-Now, in-AsOf, in-FromTo, in-Between}
 
--- the ends of a period, as the code has them at its end
+-- the ends of the period that the code computes
 abbrev Ends : Type 0
 Ends = ℤ × (ℤ × Unit {0})
 

@@ -14,7 +14,7 @@ use Rattle.tql_catalog.proofs.Catalogs.{one_more, no_fault_told, not_placed, put
 use Rattle.tql_catalog.proofs.ReferringLists.{lists_after, lists_count, none_refer}
 use Rattle.tql_catalog.proofs.catalog.Catalog.create.Goals as goal
 
--- the tables with the new one behind them
+-- the tables with the new one after the others
 grown : (c : goal.After-deref_mut-2)
     → values_of c.insert.new.self.entries
     ≡ values_of c.self.inside.tables.entries ++ record { definition = c.args.definition; id = c.args.id } ∷ []

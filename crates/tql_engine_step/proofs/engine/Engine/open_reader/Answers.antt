@@ -11,7 +11,7 @@ use Rattle.tql_engine_state.proofs.Doing.{open_does}
 use Rattle.tql_engine_state.proofs.Typed.{sound_after}
 use Rattle.tql_engine_step.proofs.engine.Engine.open_reader.Goals as goal
 
--- one more reader behind the others
+-- one more reader after the others
 kept_more : (rs new : List Reader) (r : Reader) → new ≡ rs ++ r ∷ [] → (pin : Option ℤ) → r.pin ≡ pin
     → map reader_of new ≡ map reader_of rs ++ record { name = string_bytes r.name; pin = pin } ∷ []
 kept_more rs new r e pin p =

@@ -10,7 +10,7 @@ decreases-finds l = 2 * l.x.place + 1
 abbrev pub decreases-finds_at : goal.decreases-finds_at
 decreases-finds_at l = 2 * l.at
 
--- what is left decides
+-- the remaining part decides
 abbrev pub invariant-finds-loop-operands : goal.invariant-finds-loop-operands
 invariant-finds-loop-operands l = record {
   before : l.here ≤ l.fn.x.place;

@@ -11,7 +11,7 @@ decreases-finds_in l = 2 * l.c.place + 1
 abbrev pub decreases-finds_in_test : goal.decreases-finds_in_test
 decreases-finds_in_test l = 2 * l.at
 
--- what is left decides
+-- the remaining part decides
 abbrev pub invariant-finds_in-loop-parts : goal.invariant-finds_in-loop-parts
 invariant-finds_in-loop-parts l = record {
   before : l.here ≤ l.fn.c.place;

@@ -10,7 +10,7 @@ decreases-is_safe l = 2 * l.c.place + 1
 abbrev pub decreases-is_safe_test : goal.decreases-is_safe_test
 decreases-is_safe_test l = 2 * l.at
 
--- what is left decides
+-- the remaining part decides
 abbrev pub invariant-is_safe-loop-parts : goal.invariant-is_safe-loop-parts
 invariant-is_safe-loop-parts l = record {
   before : l.here ≤ l.fn.c.place;

@@ -4,7 +4,7 @@ use Rattle.tql_expr.specs.Meaning.{expr}
 use Rattle.tql_expr.specs.Searches.{sought}
 use Rattle.tql_expr.proofs.terms.Terms.finds_any.Given as goal
 
--- what is left decides
+-- the remaining expressions decide
 abbrev pub invariant-loop-item : goal.invariant-loop-item
 invariant-loop-item l =
     list_any (sought l.search) (map (expr l.self) (drop l.item-index l.items)) ≡ list_any (sought l.search)

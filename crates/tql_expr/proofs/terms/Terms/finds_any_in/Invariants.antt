@@ -5,7 +5,7 @@ use Rattle.tql_expr.specs.Meaning.{cond}
 use Rattle.tql_expr.specs.Searches.{sought}
 use Rattle.tql_expr.proofs.terms.Terms.finds_any_in.Given as goal
 
--- what is left decides
+-- the remaining conjuncts decide
 abbrev pub invariant-loop-conjunct : goal.invariant-loop-conjunct
 invariant-loop-conjunct l =
     list_any (has_expr (sought l.search)) (map (cond l.self) (drop l.conjunct-index l.conjuncts)) ≡ list_any

@@ -2,7 +2,7 @@ use Rattle.std.proofs.Common.{◌≡◌, drop, map}
 use Rattle.tql_expr.specs.Meaning.{cond, HasCond, Stays, any_of}
 use Rattle.tql_expr.proofs.terms.Terms.push_any.Given as goal
 
--- what is built so far and what is left give the whole
+-- the condition so far and the remaining ones give the whole
 abbrev pub invariant-loop-c : goal.invariant-loop-c
 invariant-loop-c l = record {
   stays : Stays l.fn.self l.self;

@@ -3,7 +3,7 @@ use Rattle.tql_expr.specs.Trees.{plain_operation}
 use Rattle.tql_expr.specs.Meaning.{expr, HasExpr, Stays, chain}
 use Rattle.tql_expr.proofs.terms.Terms.push_chain.Given as goal
 
--- what is built so far and what is left give the whole
+-- the expression so far and the remaining operations give the whole
 abbrev pub invariant-loop-op : goal.invariant-loop-op
 invariant-loop-op l = record {
   stays : Stays l.fn.self l.self;

@@ -2,7 +2,7 @@ use Rattle.std.proofs.Common.{◌≡◌, ◌≤◌, take, map, length}
 use Rattle.tql_expr.specs.Meaning.{cond, HasCond, Stays, one_of}
 use Rattle.tql_expr.proofs.terms.Terms.push_one_of.Given as goal
 
--- what is left and what is nested so far give the whole
+-- the remaining conditions and the nested part so far give the whole
 abbrev pub invariant-loop-left : goal.invariant-loop-left
 invariant-loop-left l = record {
   left : l.left ≤ length l.conds;

@@ -10,7 +10,7 @@ use Rattle.tql_store.specs.declared.snapshot.Position.{Position}
 use Rattle.tql_store.proofs.snapshot.Snapshot.found.Given as given
 use Rattle.tql_store.proofs.snapshot.Snapshot.found.Goals as goal
 
--- what is looked at, of the store that is shown
+-- the result of `look_at`, for the store shown
 looked_at : (g : given.Over) (c : goal.After-look_at g)
     → IfOk c.look_at.result (λ found. IsFound c.args.self.now c.args.table c.args.when (is_looked_at None) found.items)
 looked_at g c =

@@ -11,7 +11,7 @@ use Rattle.tql_store.proofs.Storing.{IsRead, IsReadable, readable-at, shows, ver
 use Rattle.tql_store.proofs.store.Store.row.Given as given
 use Rattle.tql_store.proofs.store.Store.row.Goals as goal
 
--- the table that is asked
+-- the table that is read
 read : (g : given.Over) (c : goal.After-row g) → IsRead c.args.self.now c.args.table c.index.result.now
 read g c =
     let there : is_taken (slot_at c.self.inside.places.items c.args.table) ≡ true =
