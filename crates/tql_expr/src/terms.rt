@@ -15,13 +15,13 @@ use tql_value::value::{Value, View};
 /// The position of an expression among the terms of its statement.
 #[derive(Clone, Copy, PartialEq, Eq, Debug)]
 pub struct ExprId {
-    pub(crate) place: usize,
+    pub place: usize,
 }
 
 /// The position of a condition among the terms of its statement.
 #[derive(Clone, Copy, PartialEq, Eq, Debug)]
 pub struct CondId {
-    pub(crate) place: usize,
+    pub place: usize,
 }
 
 /// An aggregate over the rows of a group.
@@ -234,7 +234,7 @@ impl Terms {
     }
 
     /// Returns the node at a position. Its operands are before it, and its tree is made of theirs.
-    pub(crate) fn node(&self, at: usize) -> Node
+    pub fn node(&self, at: usize) -> Node
         requires { at < size self.now }
         ensures before { IsTrue (reads_before (length self.now.literals.items) at result) }
         ensures term { term_in (trees self.now) at
@@ -245,7 +245,7 @@ impl Terms {
     }
 
     /// Returns the literal at a position among the literals.
-    pub(crate) fn literal(&self, place: usize) -> View<'_>
+    pub fn literal(&self, place: usize) -> View<'_>
         requires { place < length self.now.literals.items }
         ensures { datum_of_view result ≡ datum_at self.now.literals.items place }
     {
