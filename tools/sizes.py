@@ -247,6 +247,12 @@ def keys(size: int) -> tuple[str, str]:
     return made + "SELECT x FROM t WHERE x = 1 AND " + "y = 1 AND " * size + "z = 1;\n", ONE + ROW
 
 
+def parents(size: int) -> tuple[str, str]:
+    """So many keys, and as many references to the last of them."""
+    made = "CREATE TABLE p (x INTEGER, y INTEGER" + ", UNIQUE (x)" * size + ", UNIQUE (x, y));\n"
+    return made + "CREATE TABLE c (x INTEGER, y INTEGER" + ", FOREIGN KEY (x, y) REFERENCES p (x, y)" * size + ");\n", "CREATE TABLE\n" * 2
+
+
 FORMS = (
     ("a text literal, bytes", 125000, literal, TRIPLE), ("a text literal that is too long, bytes", 1250000, literal, TRIPLE),
     ("empty statements", 1250000, empty, TRIPLE), ("a condition, terms", 12500, terms, TRIPLE), ("IN, members", 12500, members, TRIPLE),
@@ -259,6 +265,7 @@ FORMS = (
     ("a key of unknown columns", 12500, keyed, DOUBLE), ("a reference of unknown columns", 12500, referring, DOUBLE),
     ("a reference to unknown columns", 12500, referred, DOUBLE),
     ("keys of two columns, and conjuncts of a WHERE", 2500, keys, TRIPLE),
+    ("keys, and references to the last", 2500, parents, DOUBLE),
     ("keys of ORDER BY, each a heading", 6250, ordered, DOUBLE), ("items of the last column of GROUP BY", 25000, grouped, DOUBLE),
     ("INSERTs of one key value", 2500, one_by_one, DOUBLE), ("DELETE of half of the parents of one key value, beside children", 1250, half, DOUBLE),
     ("INSERTs of children of one key value, each over three parents", 2500, children, DOUBLE),

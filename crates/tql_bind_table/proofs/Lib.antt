@@ -1,4 +1,5 @@
 pub mod ColumnNumbers
+pub mod KeyListLaws
 pub mod KindLaws
 pub mod Sequences
 pub mod Places

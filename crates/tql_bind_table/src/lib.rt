@@ -3,5 +3,6 @@
 
 mod checks;
 pub mod create;
+mod parent_keys;
 mod parents;
 mod references;

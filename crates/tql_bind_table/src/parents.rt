@@ -11,8 +11,10 @@ ghost use Rattle.tql_catalog.specs.Definitions.{application_of};
 ghost use Rattle.tql_bind_expr.specs.Gathered.{after, Gathers};
 ghost use Rattle.tql_bind_expr.specs.Scopes.{word_of};
 ghost use Rattle.tql_bind_draft.specs.Drafts.{column_of, list_part, reference_part, kinds_in, columns_in, kind_in};
+ghost use Rattle.tql_bind_table.specs.KeyLists.{AreTableKeys};
 ghost use Rattle.tql_bind_table.specs.NewTables.{has_one_period};
 
+use crate::parent_keys::{ParentKeys, has_key};
 use std::alloc::AllocError;
 use tql_bind_draft::columns::kind_at;
 use tql_bind_draft::draft::{Draft, NewColumn, NewList, NewReference};
@@ -257,11 +259,12 @@ fn is_half(reference: &NewReference) -> bool
 /// Whether exactly one side of a reference names a period, or its columns are no key of its parent.
 pub fn is_wrong_reference(
     reference: &NewReference,
-    definition: &TableDef,
+    parent: &ParentKeys<'_>,
     numbers: &[usize],
 ) -> bool
-    ensures { result ≡ (has_one_period (reference_part reference.now)
-        || not (is_declared_key definition.now (is_some (reference_part reference.now).named.period) numbers.now)) }
+    requires { AreTableKeys parent.now }
+    ensures { result ≡ (has_one_period (reference_part reference.now) || not (is_declared_key
+        parent.now.definition.now (is_some (reference_part reference.now).named.period) numbers.now)) }
 {
-    is_half(reference) || !definition.has_key(reference.named.period.is_some(), numbers)
+    is_half(reference) || !has_key(parent, reference.named.period.is_some(), numbers)
 }

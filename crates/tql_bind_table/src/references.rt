@@ -1,13 +1,15 @@
 //! The references of a new table to keys of existing tables.
-ghost use Rattle.std.specs.Prelude.{◌≡◌, ◌++◌, IfOk, OnOk, map, option_map};
+ghost use Rattle.std.specs.Prelude.{◌≡◌, ◌++◌, All, IfOk, OnOk, map, option_map};
 ghost use Rattle.tql_spec.specs.Words.{listed};
 ghost use Rattle.tql_catalog.specs.Definitions as catalog;
 ghost use Rattle.tql_catalog.specs.Definitions.{application_of};
 ghost use Rattle.tql_catalog.specs.Tables.{definitions_of};
 ghost use Rattle.tql_bind_expr.specs.Gathered.{Gathers};
 ghost use Rattle.tql_bind_draft.specs.Drafts.{reference_part, written_of};
+ghost use Rattle.tql_bind_table.specs.KeyLists.{AreTableKeys, IsParent};
 ghost use Rattle.tql_bind_table.specs.NewTables.{reference_to, reference_in, flat_each};
 
+use crate::parent_keys::{ParentKeys, parent_at};
 use crate::parents::{
     differing, is_wrong_reference, kinds_differ, parent_columns, periods_differ, points_of,
     seek_period, wrong_reference,
@@ -20,37 +22,36 @@ use tql_bind_expr::faults::Faults;
 use tql_catalog::catalog::Catalog;
 use tql_catalog::constraint::Reference;
 use tql_catalog::definition::Application;
-use tql_catalog::table_def::TableDef;
 use tql_memory::Memory;
 use tql_value::refusal::Refusal;
 
-/// Binds a reference to this table, whose number is `place`. Adds a fault if, on either side, a column or a period is
-/// unknown or a column is repeated; if a column is generated or is one of the named period; if the kinds of the two
-/// sides differ; or if only one side names a period, or the parent's columns are no key of that sort. The only error is
-/// a refused allocation.
+/// Binds a reference to this table. Adds a fault if, on either side, a column or a period is unknown or a column is
+/// repeated; if a column is generated or is one of the named period; if the kinds of the two sides differ; or if only
+/// one side names a period, or the parent's columns are no key of that sort. The only error is a refused allocation.
 fn bound_to(
     memory: Memory,
     draft: &Draft<'_>,
     applications: &[Application],
     reference: &NewReference,
-    place: usize,
-    parent: &TableDef,
+    parent: &ParentKeys<'_>,
     faults: &mut Faults,
 ) -> Result<Reference, AllocError>
+    requires { AreTableKeys parent.now }
     ensures { IfOk result
         (λ r. Gathers (reference_to (written_of draft.now) (map application_of applications.now)
-        (reference_part reference.now) parent.now) faults.old faults.new (catalog.reference_of r)) }
+        (reference_part reference.now) parent.now.definition.now) faults.old faults.new (catalog.reference_of r)) }
 {
+    let definition = parent.definition;
     let columns = listed_columns(memory, draft, applications, &reference.child, faults)?;
-    let numbers = parent_columns(memory, parent, &reference.named.columns, faults)?;
-    seek_period(parent, &reference.named, faults);
-    let have_other_kinds = kinds_differ(&draft.columns, &columns, parent, &numbers);
+    let numbers = parent_columns(memory, definition, &reference.named.columns, faults)?;
+    seek_period(definition, &reference.named, faults);
+    let have_other_kinds = kinds_differ(&draft.columns, &columns, definition, &numbers);
     faults.refuse_if(
         have_other_kinds,
         Refusal::TypesDoNotFit,
-        differing(draft, reference, &columns, parent, &numbers),
+        differing(draft, reference, &columns, definition, &numbers),
     );
-    let have_other_points = periods_differ(draft, applications, reference, parent);
+    let have_other_points = periods_differ(draft, applications, reference, definition);
     faults.refuse_if(
         have_other_points,
         Refusal::TypesDoNotFit,
@@ -60,7 +61,7 @@ fn bound_to(
     faults.refuse_if(
         is_wrong,
         Refusal::FormNotAllowedHere,
-        wrong_reference(reference, place),
+        wrong_reference(reference, parent.place),
     );
     Ok(Reference {
         columns,
@@ -74,31 +75,27 @@ fn bound_to(
 /// Binds a reference. Adds a fault and returns none if its parent table is not found. The only error is a refused
 /// allocation.
 #[tactic(auto, using(tql_bind_expr::proofs::Gathering::gathering))]
-fn bound_reference(
+fn bound_reference<'a>(
     memory: Memory,
-    tables: &Catalog,
+    tables: &'a Catalog,
     draft: &Draft<'_>,
     applications: &[Application],
     reference: &NewReference,
+    parents: &mut Vec<ParentKeys<'a>, Memory>,
     faults: &mut Faults,
 ) -> Result<Option<Reference>, AllocError>
-    ensures { IfOk result
+    requires { All (IsParent (definitions_of tables.now)) parents.old.items }
+    ensures parents { OnOk result (All (IsParent (definitions_of tables.now)) parents.new.items) }
+    ensures reference { IfOk result
         (λ r. Gathers (reference_in (definitions_of tables.now) (written_of draft.now)
         (map application_of applications.now) (reference_part reference.now))
         faults.old faults.new (listed (option_map catalog.reference_of r))) }
 {
     match tables.place_of(&reference.parent.text) {
         Some(place) => {
-            let parent = &tables.table(place).definition;
-            let bound = bound_to(
-                memory,
-                draft,
-                applications,
-                reference,
-                place,
-                parent,
-                faults,
-            )?;
+            let index = parent_at(memory, tables, place, parents)?;
+            let parent = &parents[index];
+            let bound = bound_to(memory, draft, applications, reference, parent, faults)?;
             Ok(Some(bound))
         }
         None => {
@@ -142,9 +139,18 @@ pub fn bound_references(
         (map application_of applications.now)) (map reference_part references.now))
         faults.old faults.new (map catalog.reference_of rs.items)) }
 {
+    let mut parents: Vec<ParentKeys<'_>, Memory> = Vec::new(memory);
     let mut bound = Vec::with_capacity(memory, references.len())?;
     for reference in references {
-        let found = bound_reference(memory, tables, draft, applications, reference, faults)?;
+        let found = bound_reference(
+            memory,
+            tables,
+            draft,
+            applications,
+            reference,
+            &mut parents,
+            faults,
+        )?;
         add_reference(&mut bound, found)?;
     }
     Ok(bound)
