@@ -253,6 +253,13 @@ def parents(size: int) -> tuple[str, str]:
     return made + "CREATE TABLE c (x INTEGER, y INTEGER" + ", FOREIGN KEY (x, y) REFERENCES p (x, y)" * size + ");\n", "CREATE TABLE\n" * 2
 
 
+def misspelt(size: int) -> tuple[str, str]:
+    """An unknown column with a name of so many letters, the table's column with all of these but the last two, and so many other names."""
+    name = "q" * size
+    return (f"CREATE TABLE t (x INTEGER, {name}abc INTEGER);\nSELECT {name}def" + ",t.x" * size + " FROM t;\n",
+            "CREATE TABLE\n" + UNKNOWN)
+
+
 FORMS = (
     ("a text literal, bytes", 125000, literal, TRIPLE), ("a text literal that is too long, bytes", 1250000, literal, TRIPLE),
     ("empty statements", 1250000, empty, TRIPLE), ("a condition, terms", 12500, terms, TRIPLE), ("IN, members", 12500, members, TRIPLE),
@@ -266,6 +273,7 @@ FORMS = (
     ("a reference to unknown columns", 12500, referred, DOUBLE),
     ("keys of two columns, and conjuncts of a WHERE", 2500, keys, TRIPLE),
     ("keys, and references to the last", 2500, parents, DOUBLE),
+    ("an unknown column of so many letters, and names of its table", 12500, misspelt, DOUBLE),
     ("keys of ORDER BY, each a heading", 6250, ordered, DOUBLE), ("items of the last column of GROUP BY", 25000, grouped, DOUBLE),
     ("INSERTs of one key value", 2500, one_by_one, DOUBLE), ("DELETE of half of the parents of one key value, beside children", 1250, half, DOUBLE),
     ("INSERTs of children of one key value, each over three parents", 2500, children, DOUBLE),
