@@ -1,7 +1,7 @@
 //! The description of a query's plan: the access path of each table reference.
 #![tactic(auto)]
 
-mod calculations;
 mod columns;
+mod periods;
 mod references;
 pub mod told;

@@ -1,8 +1,6 @@
 //! A plan in words: the access path of each table reference of a query.
-use crate::calculations::first_calculation;
-use crate::columns::{
-    chain_column, chains_column, column_name, definition_of, is_key, reference_column,
-};
+use crate::columns::is_key;
+use crate::periods::{is_product_within, is_step_within};
 use crate::references::joined_reference;
 use std::alloc::AllocError;
 use tql_bound::query::Chain;
@@ -13,6 +11,10 @@ use tql_detail::shown::{Words, push_behind};
 use tql_expr::equality::Equality;
 use tql_memory::Memory;
 use tql_plan::plan::Plan;
+use tql_query_words::calculations::{Names, first_in_on, first_in_where, push_calculation};
+use tql_query_words::columns::{
+    chain_column, chains_column, column_name, definition_of, is_lone, reference_column,
+};
 use tql_store_index::basis::Sought;
 use tql_syntax_tree::expression::Name;
 use tql_syntax_tree::statement::{ChainTree, SelectTree};
@@ -178,11 +180,13 @@ fn is_alone(columns: &[usize], number: usize) -> bool {
     }
 }
 
-/// Appends the join method: an index on equated columns, a map on one equated column, or a comparison of all pairs.
+/// Appends the join method: an index on equated columns, a map on one equated column, the index of periods, or a
+/// comparison of all pairs.
 fn say_partners(
     definition: Option<&TableDef>,
     key: Option<&[usize]>,
     equal: Option<Equal<'_>>,
+    is_within: bool,
     words: &mut Words,
 ) -> Result<(), AllocError> {
     match (definition, key, equal) {
@@ -194,6 +198,9 @@ fn say_partners(
             }
         }
         (_, _, Some(equal)) => say_equal(" by map on ", equal, words),
+        (Some(definition), _, None) if is_within => {
+            say_period(definition, " by index on", words)
+        }
         (_, _, None) => words.push_str(" by pairs"),
     }
 }
@@ -233,6 +240,7 @@ impl<'t, 'p> Told<'t, '_, '_, 'p> {
             definition_of(self.catalog, chain.first),
             self.chain_key(place),
             self.chain_equal(place, chain),
+            is_product_within(self.plan, place),
             words,
         )
     }
@@ -286,6 +294,7 @@ impl<'t, 'p> Told<'t, '_, '_, 'p> {
             definition_of(self.catalog, reference),
             self.step_key(place, at),
             self.step_equal(place, at, chain, reference),
+            is_step_within(self.plan, chain, place, at),
             words,
         )
     }
@@ -324,14 +333,74 @@ impl<'t, 'p> Told<'t, '_, '_, 'p> {
         }
     }
 
+    /// Returns the qualifier of a reference's columns: its alias, or the name of its table.
+    fn qualifier(
+        self,
+        place: usize,
+        number: usize,
+        reference: Reference,
+    ) -> Result<Words, AllocError> {
+        match (
+            alias_at(self.select, place, number),
+            definition_of(self.catalog, reference),
+        ) {
+            (Some(alias), _) => alias.meant(self.memory),
+            (None, Some(definition)) => String::from_str(self.memory, definition.name()),
+            (None, None) => Ok(String::new(self.memory)),
+        }
+    }
+
+    /// Appends the qualifiers of a chain's references.
+    fn add_qualifiers(
+        self,
+        place: usize,
+        chain: &Chain,
+        names: &mut Vec<Words, Memory>,
+    ) -> Result<(), AllocError> {
+        names.push(self.qualifier(place, 0, chain.first)?)?;
+        for (at, join) in chain.joins.iter().enumerate() {
+            let name = self.qualifier(place, at.saturating_add(1), join.reference)?;
+            names.push(name)?;
+        }
+        Ok(())
+    }
+
+    /// Returns the qualifiers of all references, from the left. Empty if there is only one.
+    fn qualifiers(self) -> Result<Vec<Words, Memory>, AllocError> {
+        let mut names = Vec::new(self.memory);
+        if is_lone(&self.plan.query.chains) {
+            return Ok(names);
+        }
+        for (place, chain) in self.plan.query.chains.iter().enumerate() {
+            self.add_qualifiers(place, chain, &mut names)?;
+        }
+        Ok(names)
+    }
+
+    /// Appends the first calculation of ON and WHERE.
+    fn say_calculation(self, words: &mut Words) -> Result<(), AllocError> {
+        let query = self.plan.query;
+        let qualifiers = self.qualifiers()?;
+        let names = Names {
+            catalog: self.catalog,
+            qualifiers: &qualifiers,
+        };
+        if let Some(calculation) = first_in_on(query) {
+            return push_calculation(words, names, &query.terms, calculation);
+        }
+        match first_in_where(query) {
+            Some(calculation) => push_calculation(words, names, &query.terms, calculation),
+            None => Ok(()),
+        }
+    }
+
     /// Appends the calculation that may be out of range, if the plan is unsafe and has no lookup.
     fn say_reason(self, words: &mut Words) -> Result<(), AllocError> {
         if self.plan.is_safe || self.plan.access.sought().is_some() {
             return Ok(());
         }
-        let calculation = first_calculation(self.memory, self.select)?;
         words.push_str(", since ")?;
-        words.push_str(calculation.as_str())?;
+        self.say_calculation(words)?;
         words.push_str(" may be out of range")
     }
 }
