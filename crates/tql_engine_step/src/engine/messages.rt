@@ -204,7 +204,7 @@ impl<I: IntervalIndex> Engine<I> {
         if refusal != Refusal::ValueOutOfRange {
             return None;
         }
-        query_detail(self.memory, query)
+        query_detail(self.memory, &self.tables, query)
     }
 
     /// Returns the detail of an INSERT from a query.
