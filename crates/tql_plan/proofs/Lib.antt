@@ -4,7 +4,7 @@ pub mod Demanded
 pub mod DemandedKeys
 pub mod Asked
 pub mod Served
-pub mod Keyed
+pub mod MarkedKeys
 pub mod Named
 pub mod StoredColumns
 pub mod Steps

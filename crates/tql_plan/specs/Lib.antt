@@ -1,6 +1,7 @@
 pub mod Nodes
 pub mod Meaning
 pub mod Keyed
+pub mod Marks
 pub mod Planned
 pub mod Maps
 pub mod Asked

@@ -5,6 +5,7 @@
 mod accesses;
 pub mod counts;
 mod keys;
+mod marks;
 pub mod plan;
 pub mod planner;
 mod products;
