@@ -3,3 +3,4 @@ pub mod ColumnLaws
 pub mod ListLaws
 pub mod Sequences
 pub mod Gathered
+pub mod PeriodLaws

@@ -8,9 +8,7 @@ use indexmap::IndexMap;
 use std::alloc::AllocError;
 use std::hash::{BuildHasherDefault, FoldHasher};
 use tql_bind_expr::texts::meant;
-use tql_catalog::constraint::Checks;
 use tql_catalog::definition::Column;
-use tql_expr::search::Search;
 use tql_memory::Memory;
 use tql_syntax_tree::expression::Name;
 use tql_syntax_tree::statement::{Constraint, CreateTree, Element};
@@ -176,93 +174,14 @@ impl ConstraintNames {
         self.take(memory, name)
     }
 
-    /// Returns the name of a check without a written name, by the check's number.
-    fn of_unnamed_check(
+    /// Returns a generated name of a check, which reads only this column if there is one. The only error is a refused
+    /// allocation.
+    pub fn of_check(
         &mut self,
         memory: Memory,
-        columns: &[Column],
-        checks: &Checks,
-        number: usize,
+        column: Option<&Column>,
     ) -> Result<String<Memory>, AllocError> {
-        let column = only_column(columns, checks, number);
         let name = column_name(memory, self.table.as_str(), column, "CHECK")?;
         self.take(memory, name)
     }
-
-    /// Returns the name of an element that is the check with this number. None if the element is no check.
-    fn of_check(
-        &mut self,
-        memory: Memory,
-        element: &Element<'_>,
-        columns: &[Column],
-        checks: &Checks,
-        number: usize,
-    ) -> Result<Option<String<Memory>>, AllocError> {
-        match check_name(element) {
-            Some(Some(written)) => Ok(Some(meant(memory, written)?)),
-            Some(None) => {
-                let name = self.of_unnamed_check(memory, columns, checks, number)?;
-                Ok(Some(name))
-            }
-            None => Ok(None),
-        }
-    }
-}
-
-/// Returns the written name of an element that is a check, if any. None if the element is no check.
-fn check_name<'a>(element: &Element<'a>) -> Option<Option<Name<'a>>> {
-    match element {
-        Element::Constraint(written, constraint) if is_check(constraint) => Some(*written),
-        _ => None,
-    }
-}
-
-/// Whether a constraint is a check.
-fn is_check(constraint: &Constraint<'_>) -> bool {
-    match constraint {
-        Constraint::Check(_) => true,
-        Constraint::Key(_) | Constraint::Foreign(_) => false,
-    }
-}
-
-/// Whether a check, given by its number, reads a column.
-fn reads(checks: &Checks, check: usize, column: usize) -> bool {
-    match checks.conditions.get(check) {
-        Some(condition) => checks.terms.finds_in(Search::OneOf(&[column]), *condition),
-        None => false,
-    }
-}
-
-/// Returns the only column that a check, given by its number, reads. None if it reads several, or none.
-fn only_column<'c>(columns: &'c [Column], checks: &Checks, check: usize) -> Option<&'c Column> {
-    let mut only = None;
-    for (number, column) in columns.iter().enumerate() {
-        if reads(checks, check, number) {
-            if only.is_some() {
-                return None;
-            }
-            only = Some(column);
-        }
-    }
-    only
-}
-
-/// Returns the names of the bound checks of a statement, in its order. The only error is a refused allocation.
-pub fn check_names(
-    memory: Memory,
-    create: &CreateTree<'_>,
-    columns: &[Column],
-    checks: &Checks,
-) -> Result<Vec<String<Memory>, Memory>, AllocError> {
-    let mut names = ConstraintNames::written(memory, create)?;
-    let mut given: Vec<String<Memory>, Memory> = Vec::new(memory);
-    if let Some(name) = names.of_check(memory, &create.first, columns, checks, 0)? {
-        given.push(name)?;
-    }
-    for element in &create.more {
-        if let Some(name) = names.of_check(memory, element, columns, checks, given.len())? {
-            given.push(name)?;
-        }
-    }
-    Ok(given)
 }

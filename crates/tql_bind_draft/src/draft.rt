@@ -7,9 +7,11 @@ ghost use Rattle.tql_bind_expr.specs.Scopes.{word_of};
 ghost use Rattle.tql_bind_draft.specs.Drafts.{column_of, application_part, system_part, columns_in, applications_in};
 ghost use Rattle.tql_bind_draft.specs.Drafts.{elements_in};
 ghost use Rattle.tql_bind_draft.specs.Drafts.{systems_in, list_part, key_part, reference_part, keys_in, references_in};
-ghost use Rattle.tql_bind_draft.specs.Drafts.{key_parts, reference_parts};
+ghost use Rattle.tql_bind_draft.specs.Drafts.{key_parts, reference_parts, names_of_periods};
+ghost use Rattle.tql_bind_draft.specs.PeriodNames.{AreNames};
 
 use crate::constraint_names::ConstraintNames;
+use crate::period_names::{PeriodNames, period_names};
 use std::alloc::AllocError;
 use tql_bind_expr::texts::{Word, meant_word};
 use tql_memory::Memory;
@@ -68,11 +70,13 @@ pub struct NewReference {
     pub named: NewList,
 }
 
-/// The columns, periods, keys and references of a new table, in the order of the statement.
+/// The columns, periods, keys and references of a new table, in the order of the statement, and the names of the
+/// application periods.
 #[derive(Drop)]
 pub struct Draft<'a> {
     pub columns: Vec<NewColumn<'a>, Memory>,
     pub applications: Vec<NewApplication, Memory>,
+    pub names: PeriodNames,
     pub systems: Vec<NewSystem, Memory>,
     pub keys: Vec<NewKey, Memory>,
     pub references: Vec<NewReference, Memory>,
@@ -286,6 +290,34 @@ impl<'a> Draft<'a> {
         }
         Ok(())
     }
+
+    /// Replaces the names of the application periods.
+    fn with_names(self, names: PeriodNames) -> Draft<'a>
+        ensures columns { columns_in result ≡ columns_in self.entry }
+        ensures applications { applications_in result ≡ applications_in self.entry }
+        ensures systems { systems_in result ≡ systems_in self.entry }
+        ensures keys { keys_in result ≡ keys_in self.entry }
+        ensures references { references_in result ≡ references_in self.entry }
+        ensures names { result.names ≡ names }
+    {
+        let Draft {
+            columns,
+            applications,
+            names: former,
+            systems,
+            keys,
+            references,
+        } = self;
+        drop(former);
+        Draft {
+            columns,
+            applications,
+            names,
+            systems,
+            keys,
+            references,
+        }
+    }
 }
 
 /// Returns the columns, periods, keys and references of the statement. The only error is a refused allocation.
@@ -297,11 +329,13 @@ pub fn draft_of<'a>(memory: Memory, create: &CreateTree<'a>) -> Result<Draft<'a>
     ensures keys { IfOk result (λ d. keys_in d ≡ key_parts (constraints_of (elements_in create.now))) }
     ensures references { IfOk result
         (λ d. references_in d ≡ reference_parts (constraints_of (elements_in create.now))) }
+    ensures names { IfOk result (λ d. AreNames d.names (names_of_periods (applications_in d))) }
 {
     let mut names = ConstraintNames::written(memory, create)?;
     let mut draft = Draft {
         columns: Vec::new(memory),
         applications: Vec::new(memory),
+        names: PeriodNames::none(memory),
         systems: Vec::new(memory),
         keys: Vec::new(memory),
         references: Vec::new(memory),
@@ -310,7 +344,8 @@ pub fn draft_of<'a>(memory: Memory, create: &CreateTree<'a>) -> Result<Draft<'a>
     for element in &create.more {
         draft.add(memory, &mut names, element)?;
     }
-    Ok(draft)
+    let periods = period_names(memory, &draft.applications)?;
+    Ok(draft.with_names(periods))
 }
 
 impl NewList {

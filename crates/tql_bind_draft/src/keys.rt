@@ -6,6 +6,8 @@ ghost use Rattle.tql_catalog.specs.Definitions as catalog;
 ghost use Rattle.tql_catalog.specs.Definitions.{application_of};
 ghost use Rattle.tql_bind_expr.specs.Gathered.{Gathers};
 ghost use Rattle.tql_bind_draft.specs.Drafts.{key_part, has_primary, primary_count_in, written_of, key_in};
+ghost use Rattle.tql_bind_draft.specs.Drafts.{applications_in, names_of_periods};
+ghost use Rattle.tql_bind_draft.specs.PeriodNames.{AreNames, names_of_bound};
 
 use crate::draft::{Draft, NewKey};
 use crate::lists::listed_columns;
@@ -44,6 +46,8 @@ fn bound_key(
     key: &NewKey,
     faults: &mut Faults,
 ) -> Result<Key, AllocError>
+    requires names { AreNames draft.now.names (names_of_periods (applications_in draft.now)) }
+    requires bound { AreNames draft.now.names (names_of_bound (map application_of applications.now)) }
     ensures { IfOk result
         (λ k. Gathers (key_in (written_of draft.now) (map application_of applications.now) (key_part key.now))
         faults.old faults.new (catalog.key_of k)) }
@@ -64,6 +68,8 @@ pub fn bound_keys(
     keys: &[NewKey],
     faults: &mut Faults,
 ) -> Result<Vec<Key, Memory>, AllocError>
+    requires names { AreNames draft.now.names (names_of_periods (applications_in draft.now)) }
+    requires bound { AreNames draft.now.names (names_of_bound (map application_of applications.now)) }
     ensures { IfOk result
         (λ ks. Gathers (check_each (key_in (written_of draft.now) (map application_of applications.now))
         (map key_part keys.now)) faults.old faults.new (map catalog.key_of ks.items)) }

@@ -8,4 +8,5 @@ pub mod draft;
 pub mod keys;
 pub mod lists;
 pub mod names;
+pub mod period_names;
 pub mod periods;

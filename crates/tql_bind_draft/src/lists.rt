@@ -11,16 +11,18 @@ ghost use Rattle.tql_bind_expr.specs.Gathered.{after, Gathers};
 ghost use Rattle.tql_bind_expr.specs.Scopes.{word_of};
 ghost use Rattle.tql_bind_draft.specs.Drafts.{column_of, list_part, names_in, names_of_periods, is_generated_in};
 ghost use Rattle.tql_bind_draft.specs.Drafts.{columns_in, applications_in, written_of, listed_in};
+ghost use Rattle.tql_bind_draft.specs.PeriodNames.{AreNames, names_of_bound};
 
 use crate::columns::is_generated_at;
 use crate::draft::{Draft, NewColumn, NewList};
-use crate::names::has_period;
+use crate::names::is_period;
+use crate::period_names::PeriodNames;
 use crate::periods::column_number;
 use std::alloc::AllocError;
 use tql_bind_expr::about::{About, Cause};
 use tql_bind_expr::faults::Faults;
 use tql_bind_expr::repeats::{about_repeated, repeated};
-use tql_bind_expr::texts::{Word, is_same_text};
+use tql_bind_expr::texts::Word;
 use tql_catalog::definition::Application;
 use tql_memory::Memory;
 use tql_value::refusal::Refusal;
@@ -86,13 +88,14 @@ fn column_numbers(
 /// Adds a fault if the list names a period that is not an application period of the table.
 #[tactic(auto, using(tql_bind_expr::proofs::Gathering::gathering, crate::proofs::ListLaws::one_sought))]
 fn seek_period(draft: &Draft<'_>, list: &NewList, faults: &mut Faults)
+    requires { AreNames draft.now.names (names_of_periods (applications_in draft.now)) }
     ensures { faults.new ≡ after faults.old
         (check_each (spec.column_number (names_of_periods (applications_in draft.now)))
         (listed (list_part list.now).period)).faults }
 {
     if let Some(name) = &list.period {
         faults.refuse_if(
-            !has_period(&draft.applications, &name.text),
+            !is_period(draft, &name.text),
             Refusal::NameUnknownAmbiguousOrRepeated,
             About::at(Cause::NoPeriod, name.start),
         );
@@ -111,28 +114,36 @@ fn has_generated(columns: &[NewColumn<'_>], numbers: &[usize]) -> bool
     false
 }
 
-/// Returns the application period that the list names.
-pub fn period_called<'a>(applications: &'a [Application], list: &NewList) -> Option<&'a Application>
+/// Returns the application period that the list names, by the names of all.
+pub fn period_called<'a>(
+    names: &PeriodNames,
+    applications: &'a [Application],
+    list: &NewList,
+) -> Option<&'a Application>
+    requires { AreNames names.now (names_of_bound (map application_of applications.now)) }
     ensures { option_map (λ a. application_of a.now) result
         ≡ spec.period_called (list_part list.now).period (map application_of applications.now) }
 {
     match &list.period {
-        Some(name) => first_called(applications, &name.text),
+        Some(name) => first_called(names, applications, &name.text),
         None => None,
     }
 }
 
-/// Returns the first application period of this name.
-fn first_called<'a>(applications: &'a [Application], name: &str) -> Option<&'a Application>
+/// Returns the first application period of this name, by the names of all.
+fn first_called<'a>(
+    names: &PeriodNames,
+    applications: &'a [Application],
+    name: &str,
+) -> Option<&'a Application>
+    requires { AreNames names.now (names_of_bound (map application_of applications.now)) }
     ensures { option_map (λ a. application_of a.now) result
         ≡ spec.period_called (Some name.now) (map application_of applications.now) }
 {
-    for application in applications {
-        if is_same_text(name, &application.name) {
-            return Some(application);
-        }
+    match names.place_of(name) {
+        Some(place) => applications.get(place),
+        None => None,
     }
-    None
 }
 
 /// Whether the column with this number is a column of the application period.
@@ -166,12 +177,13 @@ fn is_wrong_list(
     list: &NewList,
     numbers: &[usize],
 ) -> bool
+    requires { AreNames draft.now.names (names_of_bound (map application_of applications.now)) }
     ensures { result ≡ (list_any (is_generated_in (columns_in draft.now)) numbers.now
         || shares_number numbers.now
         (period_columns (spec.period_called (list_part list.now).period (map application_of applications.now)))) }
 {
     has_generated(&draft.columns, numbers)
-        || shares_period(period_called(applications, list), numbers)
+        || shares_period(period_called(&draft.names, applications, list), numbers)
 }
 
 /// Returns the cause and place of the fault that a list has a generated column, or else one of its period.
@@ -194,6 +206,8 @@ pub fn listed_columns(
     list: &NewList,
     faults: &mut Faults,
 ) -> Result<Vec<usize, Memory>, AllocError>
+    requires names { AreNames draft.now.names (names_of_periods (applications_in draft.now)) }
+    requires bound { AreNames draft.now.names (names_of_bound (map application_of applications.now)) }
     ensures { IfOk result
         (λ numbers. Gathers (listed_in (written_of draft.now) (map application_of applications.now)
         (list_part list.now)) faults.old faults.new numbers.items) }

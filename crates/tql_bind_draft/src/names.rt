@@ -5,59 +5,63 @@ ghost use Rattle.tql_spec.specs.Creation as spec;
 ghost use Rattle.tql_spec.specs.Creation.{part_names};
 ghost use Rattle.tql_bind_draft.specs.Drafts.{column_of, application_part, names_in, names_of_periods, implied_in};
 ghost use Rattle.tql_bind_draft.specs.Drafts.{columns_in, applications_in, key_part};
+ghost use Rattle.tql_bind_draft.specs.PeriodNames.{AreNames};
 
 use crate::columns::has_column;
 use crate::draft::{Draft, NewApplication, NewColumn, NewKey};
 use crate::keys::is_in_primary;
-use tql_bind_expr::texts::{Word, is_same_text};
+use tql_bind_expr::texts::is_same_text;
 
-/// Whether an application period has this name.
-pub fn has_period(periods: &[NewApplication], name: &str) -> bool
-    ensures { result ≡ spec.has_name name.now (names_of_periods (map application_part periods.now)) }
+/// Whether an application period of the new table has this name.
+pub fn is_period(draft: &Draft<'_>, name: &str) -> bool
+    requires { AreNames draft.now.names (names_of_periods (applications_in draft.now)) }
+    ensures { result ≡ spec.has_name name.now (names_of_periods (applications_in draft.now)) }
 {
-    for period in periods {
-        if is_same_text(name, &period.name.text) {
-            return true;
-        }
-    }
-    false
+    draft.names.place_of(name).is_some()
 }
 
-/// Returns the first name that two application periods have.
-fn repeated_period(periods: &[NewApplication]) -> Option<&Word>
-    ensures { is_some result ≡ spec.repeats (names_of_periods (map application_part periods.now)) }
-{
-    let mut left = periods;
-    while let [period, others @ ..] = left {
-        if has_period(others, &period.name.text) {
-            return Some(&period.name);
-        }
-        left = others;
+/// Returns the byte offset of the name of the application period at this position.
+fn period_start(periods: &[NewApplication], place: usize) -> u32 {
+    match periods.get(place) {
+        Some(period) => period.name.start,
+        None => 0,
     }
-    None
 }
 
-/// Whether a column or an application period has this name.
-fn is_taken(columns: &[NewColumn<'_>], periods: &[NewApplication], name: &str) -> bool
+/// Returns the byte offset of the first name that two application periods have.
+fn repeated_period(draft: &Draft<'_>) -> Option<u32>
+    requires { AreNames draft.now.names (names_of_periods (applications_in draft.now)) }
+    ensures { is_some result ≡ spec.repeats (names_of_periods (applications_in draft.now)) }
+{
+    match draft.names.repeated() {
+        Some(place) => Some(period_start(&draft.applications, place)),
+        None => None,
+    }
+}
+
+/// Whether one of these columns or an application period of the new table has this name.
+fn is_taken(columns: &[NewColumn<'_>], draft: &Draft<'_>, name: &str) -> bool
+    requires { AreNames draft.now.names (names_of_periods (applications_in draft.now)) }
     ensures { result ≡ spec.has_name name.now
-        (names_in (map column_of columns.now) ++ names_of_periods (map application_part periods.now)) }
+        (names_in (map column_of columns.now) ++ names_of_periods (applications_in draft.now)) }
 {
-    has_column(columns, name) || has_period(periods, name)
+    has_column(columns, name) || is_period(draft, name)
 }
 
-/// Returns the first name that occurs twice among the columns and application periods.
-pub fn repeated_name<'t>(draft: &'t Draft<'_>) -> Option<&'t Word>
+/// Returns the byte offset of the first name that occurs twice among the columns and application periods.
+pub fn repeated_name(draft: &Draft<'_>) -> Option<u32>
+    requires { AreNames draft.now.names (names_of_periods (applications_in draft.now)) }
     ensures { is_some result
         ≡ spec.repeats (names_in (columns_in draft.now) ++ names_of_periods (applications_in draft.now)) }
 {
     let mut left = draft.columns.as_slice();
     while let [column, others @ ..] = left {
-        if is_taken(others, &draft.applications, &column.name.text) {
-            return Some(&column.name);
+        if is_taken(others, draft, &column.name.text) {
+            return Some(column.name.start);
         }
         left = others;
     }
-    repeated_period(&draft.applications)
+    repeated_period(draft)
 }
 
 /// Whether the column of this name is a column of an application period.

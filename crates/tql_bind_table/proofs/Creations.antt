@@ -25,7 +25,7 @@ use Rattle.tql_syntax_tree.specs.Statements.{create_of}
 use Rattle.tql_syntax_tree.specs.declared.statement.CreateTree.{CreateTree}
 use Rattle.tql_bind_check.specs.Checking.{check_by, check_parts, checks_in, elements_in, is_wrong_check}
 use Rattle.tql_bind_table.specs.NewTables as new
-use Rattle.tql_bind_draft.specs.Drafts.{Written, KeyPart, ReferencePart, application_in, system_in, list_of, key_parts}
+use Rattle.tql_bind_draft.specs.Drafts.{Written, application_in, system_in, list_of, key_parts}
 use Rattle.tql_bind_draft.specs.Drafts.{reference_parts, written_in, primary_in, primary_count_in, key_in}
 use Rattle.tql_bind_draft.specs.Drafts.{is_generated_in}
 use Rattle.tql_bind_table.specs.NewTables.{reference_at, flat_each, whole_in, table_by, create_in, defined_in, scope_by}

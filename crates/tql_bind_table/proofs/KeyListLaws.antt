@@ -1,9 +1,9 @@
 -- Sorted lists of the columns of keys: a search among them finds what the table declares.
-use Rattle.std.proofs.Common.{◌≡◌, ◌∙◌, refl, sym, ap, subst, ℕ, ◌<◌, ◌≤◌, Bool, true, false, List, [], ◌∷◌, ◌++◌, map}
+use Rattle.std.proofs.Common.{◌≡◌, ◌∙◌, refl, sym, ap, subst, ℕ, ◌<◌, Bool, true, false, List, [], ◌∷◌, ◌++◌, map}
 use Rattle.std.proofs.Common.{length, drop, get_or, ◌+◌, append_assoc, arith, ⊎_elim}
-use Rattle.std.specs.Prelude.{◌==◌, ◌&&◌, ◌||◌, if◌then◌else◌, Option, Some, Result, Ok, Err, is_ok, All}
+use Rattle.std.specs.Prelude.{◌==◌, ◌&&◌, ◌||◌, if◌then◌else◌, Option, Some, Result, Ok, Err, is_ok}
 use Rattle.std.specs.Cmp.Lexicographic.{slice_cmp}
-use Rattle.std.specs.List.{flat_map, list_any, AllWithin, HoldsAt}
+use Rattle.std.specs.List.{flat_map, list_any, HoldsAt}
 use Rattle.std.specs.List.Sorted.{IsBinarySearchResult, IsNonDecreasingBy, IsPartitionPoint, IsPermutation}
 use Rattle.std.specs.List.Sorted.{IsSearchInRange}
 use Rattle.std.specs.Ordering.{is_eq, nat_cmp, ordering_index}
@@ -19,7 +19,7 @@ use Rattle.std.proofs.lemmas.Map.Text.{is_eq-slice_cmp}
 use Rattle.tql_spec.specs.Refusal.{Refusal}
 use Rattle.tql_spec.specs.Creation.{is_declared_key, same_numbers}
 use Rattle.tql_spec.specs.Definition.{Application, Key, Reference, TableDef, table_at}
-use Rattle.tql_spec.specs.Names.{◌>>=◌, sound}
+use Rattle.tql_spec.specs.Names.{sound}
 use Rattle.tql_bind_expr.specs.Gathered.{Gathers}
 use Rattle.tql_bind_expr.proofs.Gathering.{bound, sound_here}
 use Rattle.tql_bind_draft.specs.Drafts.{ReferencePart, Written}

@@ -14,7 +14,8 @@ ghost use Rattle.tql_bind_table.specs.Binds.{Binds};
 ghost use Rattle.tql_bind_check.specs.Checking.{checks_in, elements_in};
 ghost use Rattle.tql_bind_draft.specs.Drafts.{column_of, application_part, columns_in, applications_in, systems_in};
 ghost use Rattle.tql_bind_draft.specs.Drafts.{implied_in, starts_in, stops_in, key_part, keys_in, written_of};
-ghost use Rattle.tql_bind_draft.specs.Drafts.{primary_count_in};
+ghost use Rattle.tql_bind_draft.specs.Drafts.{names_of_periods, primary_count_in};
+ghost use Rattle.tql_bind_draft.specs.PeriodNames.{AreNames};
 ghost use Rattle.tql_bind_table.specs.NewTables.{whole_in, create_in, table_of};
 
 use crate::checks::table_checks;
@@ -31,7 +32,7 @@ use tql_bind_draft::periods::{
 };
 use tql_bind_expr::about::{About, Cause};
 use tql_bind_expr::faults::Faults;
-use tql_bind_expr::texts::{Word, is_same_text, meant};
+use tql_bind_expr::texts::{is_same_text, meant};
 use tql_catalog::catalog::Catalog;
 use tql_catalog::constraint::{Checks, Key, Reference};
 use tql_catalog::definition::{Application, Column, System};
@@ -170,9 +171,9 @@ fn second_primary(keys: &[NewKey]) -> About {
 }
 
 /// Returns the cause and place of the fault that a name is repeated.
-fn about_word(repeated: Option<&Word>) -> About {
+fn about_name(repeated: Option<u32>) -> About {
     match repeated {
-        Some(word) => About::at(Cause::Repeated, word.start),
+        Some(start) => About::at(Cause::Repeated, start),
         None => About::unknown(),
     }
 }
@@ -186,6 +187,7 @@ fn whole_faults(
     is_versioned: bool,
     faults: &mut Faults,
 )
+    requires { AreNames draft.now.names (names_of_periods (applications_in draft.now)) }
     ensures { Gathers (refuse_for
         (whole_in (definitions_of tables.now) name.now (written_of draft.now) is_versioned))
         faults.old faults.new tt }
@@ -199,7 +201,7 @@ fn whole_faults(
     faults.refuse_if(
         repeated.is_some(),
         Refusal::NameUnknownAmbiguousOrRepeated,
-        about_word(repeated),
+        about_name(repeated),
     );
     faults.refuse_if(
         has_misfit(&draft.columns),
@@ -287,6 +289,7 @@ fn parts_of(
     draft: &Draft<'_>,
     faults: &mut Faults,
 ) -> Result<Parts, AllocError>
+    requires { AreNames draft.now.names (names_of_periods (applications_in draft.now)) }
     ensures { IfOk result
         (λ p. Gathers (create_in (definitions_of tables.now) name.now (written_of draft.now)
         (checks_in (elements_in create.now)) create.now.is_versioned) faults.old faults.new (table_of name.now p)) }

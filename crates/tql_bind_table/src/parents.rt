@@ -11,6 +11,7 @@ ghost use Rattle.tql_catalog.specs.Definitions.{application_of};
 ghost use Rattle.tql_bind_expr.specs.Gathered.{after, Gathers};
 ghost use Rattle.tql_bind_expr.specs.Scopes.{word_of};
 ghost use Rattle.tql_bind_draft.specs.Drafts.{column_of, list_part, reference_part, kinds_in, columns_in, kind_in};
+ghost use Rattle.tql_bind_draft.specs.PeriodNames.{AreNames, names_of_bound};
 ghost use Rattle.tql_bind_table.specs.KeyLists.{AreTableKeys};
 ghost use Rattle.tql_bind_table.specs.NewTables.{has_one_period};
 
@@ -230,6 +231,7 @@ pub fn periods_differ(
     reference: &NewReference,
     definition: &TableDef,
 ) -> bool
+    requires { AreNames draft.now.names (names_of_bound (map application_of applications.now)) }
     ensures { result ≡ spec.periods_differ
         (application_kind (kinds_in (columns_in draft.now))
         (spec.period_called (reference_part reference.now).child.period (map application_of applications.now)))
@@ -239,7 +241,7 @@ pub fn periods_differ(
     match (&reference.child.period, &reference.named.period) {
         (Some(_), Some(_)) => points_differ(
             &draft.columns,
-            period_called(applications, &reference.child),
+            period_called(&draft.names, applications, &reference.child),
             definition,
         ),
         _ => false,

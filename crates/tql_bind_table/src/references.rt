@@ -5,7 +5,8 @@ ghost use Rattle.tql_catalog.specs.Definitions as catalog;
 ghost use Rattle.tql_catalog.specs.Definitions.{application_of};
 ghost use Rattle.tql_catalog.specs.Tables.{definitions_of};
 ghost use Rattle.tql_bind_expr.specs.Gathered.{Gathers};
-ghost use Rattle.tql_bind_draft.specs.Drafts.{reference_part, written_of};
+ghost use Rattle.tql_bind_draft.specs.Drafts.{applications_in, names_of_periods, reference_part, written_of};
+ghost use Rattle.tql_bind_draft.specs.PeriodNames.{AreNames, names_of_bound};
 ghost use Rattle.tql_bind_table.specs.KeyLists.{AreTableKeys, IsParent};
 ghost use Rattle.tql_bind_table.specs.NewTables.{reference_to, reference_in, flat_each};
 
@@ -36,7 +37,9 @@ fn bound_to(
     parent: &ParentKeys<'_>,
     faults: &mut Faults,
 ) -> Result<Reference, AllocError>
-    requires { AreTableKeys parent.now }
+    requires names { AreNames draft.now.names (names_of_periods (applications_in draft.now)) }
+    requires bound { AreNames draft.now.names (names_of_bound (map application_of applications.now)) }
+    requires keys { AreTableKeys parent.now }
     ensures { IfOk result
         (λ r. Gathers (reference_to (written_of draft.now) (map application_of applications.now)
         (reference_part reference.now) parent.now.definition.now) faults.old faults.new (catalog.reference_of r)) }
@@ -84,7 +87,9 @@ fn bound_reference<'a>(
     parents: &mut Vec<ParentKeys<'a>, Memory>,
     faults: &mut Faults,
 ) -> Result<Option<Reference>, AllocError>
-    requires { All (IsParent (definitions_of tables.now)) parents.old.items }
+    requires names { AreNames draft.now.names (names_of_periods (applications_in draft.now)) }
+    requires bound { AreNames draft.now.names (names_of_bound (map application_of applications.now)) }
+    requires parents { All (IsParent (definitions_of tables.now)) parents.old.items }
     ensures parents { OnOk result (All (IsParent (definitions_of tables.now)) parents.new.items) }
     ensures reference { IfOk result
         (λ r. Gathers (reference_in (definitions_of tables.now) (written_of draft.now)
@@ -134,6 +139,8 @@ pub fn bound_references(
     references: &[NewReference],
     faults: &mut Faults,
 ) -> Result<Vec<Reference, Memory>, AllocError>
+    requires names { AreNames draft.now.names (names_of_periods (applications_in draft.now)) }
+    requires bound { AreNames draft.now.names (names_of_bound (map application_of applications.now)) }
     ensures { IfOk result
         (λ rs. Gathers (flat_each (reference_in (definitions_of tables.now) (written_of draft.now)
         (map application_of applications.now)) (map reference_part references.now))

@@ -1,6 +1,7 @@
 use Rattle.std.proofs.Common.{◌≡◌, ◌∙◌, ap, sym, List, length, map, subst}
 use Rattle.tql_spec.specs.Creation.{column, first_of}
 use Rattle.tql_spec.specs.Definition as definition
+use Rattle.tql_spec.specs.Definition.{Name}
 use Rattle.tql_spec.specs.Names.{check_each, Known}
 use Rattle.tql_catalog.specs.Definitions as catalog
 use Rattle.tql_catalog.specs.Definitions.{application_of, system_of, key_of, reference_of, checks_of}
@@ -10,7 +11,9 @@ use Rattle.tql_bind_expr.specs.Gathered.{Gathers}
 use Rattle.tql_bind_check.specs.Checking.{check_by, checks_in, elements_in}
 use Rattle.tql_bind_draft.specs.Drafts.{column_of, application_part, system_part, key_part, reference_part, columns_in}
 use Rattle.tql_bind_draft.specs.Drafts.{applications_in, systems_in, written_of, application_in, system_in, key_in}
-use Rattle.tql_bind_draft.specs.Drafts.{implied_in, is_generated_in}
+use Rattle.tql_bind_draft.specs.Drafts.{implied_in, is_generated_in, names_of_periods}
+use Rattle.tql_bind_draft.specs.PeriodNames.{AreNames, names_of_bound}
+use Rattle.tql_bind_draft.proofs.PeriodLaws.{names_bound}
 use Rattle.tql_bind_table.specs.NewTables.{reference_in, flat_each, defined_in, scope_by, create_in, table_by}
 use Rattle.tql_bind_draft.specs.declared.draft.NewColumn.{NewColumn}
 use Rattle.tql_bind_draft.specs.declared.draft.NewApplication.{NewApplication}
@@ -53,6 +56,26 @@ table_checks-requires-clause-systems c =
     systems_within (columns_in d) (length c.deref-12.result.now)
     (width_same w cs columns ∙ ap length (sym c.deref-12.ensures.value)) (systems_in d) c.deref-14.result.now
     (ap (map system_of) c.deref-14.ensures.value ∙ c.in_ok-systems.ensures.value ∙ written)
+
+pub bound_keys-requires-clause-bound : goal.bound_keys-requires-clause-bound
+bound_keys-requires-clause-bound c =
+    let d = c.args.draft.now in
+    let bound : names_of_bound (map application_of c.deref-5.result.now) ≡ names_of_periods (applications_in d)
+    = ap (λ (xs : List Application). names_of_bound (map application_of xs)) c.deref-5.ensures.value
+    ∙ ap names_of_bound c.in_ok-applications.ensures.value
+    ∙ names_bound (map column_of c.deref.result.now) c.deref-2.result.now
+    ∙ ap (λ (ps : List NewApplication). names_of_periods (map application_part ps)) c.deref-2.ensures.value in
+    subst (λ (ns : List Name). AreNames d.names ns) (sym bound) c.requires
+
+pub bound_references-requires-clause-bound : goal.bound_references-requires-clause-bound
+bound_references-requires-clause-bound c =
+    let d = c.args.draft.now in
+    let bound : names_of_bound (map application_of c.deref-7.result.now) ≡ names_of_periods (applications_in d)
+    = ap (λ (xs : List Application). names_of_bound (map application_of xs)) c.deref-7.ensures.value
+    ∙ ap names_of_bound c.in_ok-applications.ensures.value
+    ∙ names_bound (map column_of c.deref.result.now) c.deref-2.result.now
+    ∙ ap (λ (ps : List NewApplication). names_of_periods (map application_part ps)) c.deref-2.ensures.value in
+    subst (λ (ns : List Name). AreNames d.names ns) (sym bound) c.requires
 
 pub returns : goal.returns
 returns c =
