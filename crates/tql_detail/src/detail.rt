@@ -19,6 +19,11 @@ pub struct Detail {
     pub columns: Vec<String<Memory>, Memory>,
     /// The number of that row among the rows of an INSERT, counted from 1.
     pub row: Option<u64>,
+    /// Whether the statement is refused because a transaction is open.
+    pub in_transaction: bool,
+    /// The line of the input on which that transaction was opened. The words contain it too. None if it is not known:
+    /// the transaction may have been opened in another input, or by a single statement of the host.
+    pub since: Option<u64>,
 }
 
 impl Drop for Detail {
@@ -30,6 +35,8 @@ impl Drop for Detail {
             constraint,
             columns,
             row: _,
+            in_transaction: _,
+            since: _,
         } = self;
         drop(words);
         drop(hint);
@@ -49,6 +56,8 @@ impl Detail {
             constraint: None,
             columns: Vec::new(memory),
             row: None,
+            in_transaction: false,
+            since: None,
         }
     }
 
@@ -65,6 +74,14 @@ impl Detail {
         Ok(())
     }
 
+    /// Adds the line on which the open transaction was opened, and appends it to the words. The only error is a refused
+    /// allocation, after which the words may end with a prefix of the addition.
+    pub fn open_since(&mut self, line: u64) -> Result<(), AllocError> {
+        write!(&mut self.words, " since line {line}")?;
+        self.since = Some(line);
+        Ok(())
+    }
+
     /// Moves the place from the text of a statement to the script. The text begins on line `line`, after `before`
     /// characters of that line.
     pub fn stand_behind(&mut self, line: u64, before: u64) {
@@ -78,6 +95,8 @@ impl Detail {
         let mut copy = Detail::of(String::from_str(memory, self.words.as_str())?);
         copy.place = self.place;
         copy.row = self.row;
+        copy.in_transaction = self.in_transaction;
+        copy.since = self.since;
         if let Some(hint) = &self.hint {
             copy.advise(hint.as_str())?;
         }

@@ -11,6 +11,7 @@ pub mod notes;
 mod piece;
 pub mod pushed;
 pub mod responder;
+mod run_splitter;
 pub mod runner;
 pub mod session;
 pub mod silence;

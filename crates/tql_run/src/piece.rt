@@ -38,12 +38,25 @@ pub fn answer_piece<R: Responder>(responder: &mut R, piece: Piece<'_>) -> Answer
     }
 }
 
-/// Returns the detail of the answer to a piece, if it is wanted and the answer refuses a text. The allocations made
-/// here are not counted, so later statements have the same memory budget with or without details.
+/// Returns a detail with the line on which the open transaction was opened, if the line is known and the detail is
+/// about that transaction. None if an allocation is refused.
+fn with_line(mut detail: Detail, since: Option<u64>) -> Option<Detail> {
+    if detail.in_transaction {
+        if let Some(line) = since {
+            detail.open_since(line).ok()?;
+        }
+    }
+    Some(detail)
+}
+
+/// Returns the detail of the answer to a piece, if it is wanted and the answer refuses a text. `since` is the line on
+/// which the open transaction was opened, if known. The allocations made here are not counted, so later statements have
+/// the same memory budget with or without details.
 pub fn detail_of<R: Responder>(
     responder: &R,
     piece: Piece<'_>,
     answer: &Answer,
+    since: Option<u64>,
     is_wanted: bool,
 ) -> Option<Detail> {
     if !is_wanted {
@@ -59,7 +72,10 @@ pub fn detail_of<R: Responder>(
     };
     let memory = responder.memory();
     let left = memory.left();
-    let detail = responder.detail(text, *refusal);
+    let detail = match responder.detail(text, *refusal) {
+        Some(detail) => with_line(detail, since),
+        None => None,
+    };
     memory.uncount(left);
     detail
 }

@@ -18,6 +18,7 @@ use crate::listener::Listener;
 use crate::piece::{answer_piece, detail_of};
 use crate::pushed::Pushed;
 use crate::responder::Responder;
+use crate::run_splitter::RunSplitter;
 use std::alloc::AllocError;
 use tql_detail::detail::Detail;
 use tql_lex::splitter::{LONGEST_PART, Splitter};
@@ -85,10 +86,12 @@ fn is_stopped(bail: bool, summary: &Summary) -> bool
 }
 
 /// Takes the next statement and answers it. Sets `detail` to the detail of the answer, with its place relative to the
-/// statement. Returns None if the bytes fed so far contain no further whole statement.
+/// statement. `since` is the line on which the open transaction was opened, if known. Returns None if the bytes fed so
+/// far contain no further whole statement.
 fn answer_whole<R: Responder>(
     responder: &mut R,
     splitter: &mut Splitter,
+    since: Option<u64>,
     is_wanted: bool,
     detail: &mut Option<Detail>,
 ) -> Option<Answer>
@@ -98,7 +101,7 @@ fn answer_whole<R: Responder>(
     match splitter.next_statement() {
         Some(piece) => {
             let answer = answer_piece(responder, piece);
-            *detail = detail_of(responder, piece, &answer, is_wanted);
+            *detail = detail_of(responder, piece, &answer, since, is_wanted);
             Some(answer)
         }
         None => None,
@@ -109,7 +112,7 @@ fn answer_whole<R: Responder>(
 /// its place in the script. Returns None if the bytes fed so far contain no further whole statement.
 pub fn answer_next<R: Responder>(
     responder: &mut R,
-    splitter: &mut Splitter,
+    splitter: &mut RunSplitter,
     is_wanted: bool,
     detail: &mut Option<Detail>,
 ) -> Option<Answer>
@@ -117,9 +120,13 @@ pub fn answer_next<R: Responder>(
         (R.stands responder.old) (R.stands responder.new) }
 {
     *detail = None;
-    let answer = answer_whole(responder, splitter, is_wanted, detail);
+    let since = splitter.since;
+    let answer = answer_whole(responder, &mut splitter.splitter, since, is_wanted, detail);
     if let Some(told) = detail {
         told.stand_behind(splitter.line(), splitter.column());
+    }
+    if let Some(Answer::Replied(Reply::Done(verb, _))) = &answer {
+        splitter.note(*verb);
     }
     answer
 }
@@ -146,7 +153,7 @@ fn report<L: Listener>(
 /// `bail` is set, it stops after the first refusal.
 fn answer_ready<R: Responder, O: Sink, L: Listener, F: Form>(
     responder: &mut R,
-    splitter: &mut Splitter,
+    splitter: &mut RunSplitter,
     sink: &mut O,
     listener: &mut L,
     form: &mut F,
@@ -187,7 +194,7 @@ fn answer_ready<R: Responder, O: Sink, L: Listener, F: Form>(
 /// Answers the whole statements as `answer_ready` does, then flushes the sink.
 fn answer_flushed<R: Responder, O: Sink, L: Listener, F: Form>(
     responder: &mut R,
-    splitter: &mut Splitter,
+    splitter: &mut RunSplitter,
     sink: &mut O,
     listener: &mut L,
     form: &mut F,
@@ -220,7 +227,7 @@ fn answer_flushed<R: Responder, O: Sink, L: Listener, F: Form>(
 /// other function of a run pulls.
 fn pull_flushed<I: Source<O>, O: Sink>(
     source: &mut I,
-    splitter: &Splitter,
+    splitter: &RunSplitter,
     sink: &O,
     buffer: &mut [u8],
 ) -> Result<usize, DeviceFault>
@@ -236,7 +243,7 @@ fn pull_flushed<I: Source<O>, O: Sink>(
 /// Answers the rest of a script that was read to its end.
 fn answer_rest<R: Responder, O: Sink, L: Listener, F: Form>(
     responder: &mut R,
-    splitter: &mut Splitter,
+    splitter: &mut RunSplitter,
     sink: &mut O,
     listener: &mut L,
     form: &mut F,
@@ -283,7 +290,7 @@ fn converse<R: Responder, I: Source<O>, O: Sink, L: Listener, F: Form>(
         (sink_change O.written O.failures O.flushed O.flushes_fail sink.old sink.new)
         (hearing_change L.heard listener.old listener.new) result }
 {
-    let mut script = Splitter::new(responder.memory())?;
+    let mut script = RunSplitter::new(responder.memory())?;
     let mut all = Summary {
         statements: 0,
         refused: 0,

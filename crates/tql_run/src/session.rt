@@ -5,11 +5,12 @@ ghost use Rattle.tql_lex.specs.Feeding.{Feeds, Finishes};
 ghost use Rattle.tql_run.specs.Writing.{AnswersNext};
 
 use crate::responder::Responder;
+use crate::run_splitter::RunSplitter;
 use crate::runner::answer_next;
 use std::alloc::AllocError;
 use std::marker::Model;
 use tql_detail::detail::Detail;
-use tql_lex::splitter::{LONGEST_PART, Splitter};
+use tql_lex::splitter::LONGEST_PART;
 use tql_memory::Memory;
 use tql_result::answer::Answer;
 
@@ -17,7 +18,7 @@ use tql_result::answer::Answer;
 /// whole. How the bytes are divided into parts does not matter.
 #[derive(Drop)]
 pub struct Session {
-    splitter: Splitter,
+    splitter: RunSplitter,
     /// The detail of the last answer.
     detail: Option<Detail>,
 }
@@ -40,7 +41,7 @@ impl Session {
         ensures ready { IfOk result (λ s. s.ready ≡ []) }
         ensures unended { IfOk result (λ s. IsFalse s.ended) }
     {
-        let splitter = Splitter::new(memory)?;
+        let splitter = RunSplitter::new(memory)?;
         Ok(Session {
             splitter,
             detail: None,
@@ -89,7 +90,8 @@ impl Session {
     }
 
     /// Returns the detail of the refusal of the last answered statement. It is allocated in the responder's memory, and
-    /// is freed by the next call of `next_answer`.
+    /// is freed by the next call of `next_answer`. `since` is the line of this session's last START TRANSACTION, so it
+    /// may be wrong if another session ends that transaction and opens one on the same responder.
     pub fn detail(&self) -> Option<&Detail> {
         self.detail.as_ref()
     }
