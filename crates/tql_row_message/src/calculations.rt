@@ -120,7 +120,7 @@ fn count_on(query: &BoundQuery) -> usize {
     count
 }
 
-/// Whether an item of a select list can be out of range. COUNT(*) is not counted: no table has so many rows.
+/// Whether an item of a select list can be out of range. COUNT(*) is left out, since no query reads 2^63 rows.
 fn can_fail(terms: &Terms, item: ExprId) -> bool
     requires { HasExpr terms.now item }
 {

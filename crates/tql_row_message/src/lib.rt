@@ -6,6 +6,7 @@ pub mod cells;
 pub mod checks;
 pub mod constraints;
 pub mod faults;
+pub mod horizon;
 pub mod keys;
 pub mod references;
 pub mod state;

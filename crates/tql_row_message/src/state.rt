@@ -36,6 +36,7 @@ pub fn transaction_detail(memory: Memory, is_open: bool) -> Option<Detail> {
     };
     let mut detail = plain_detail(memory, words)?;
     detail.advise(hint).ok()?;
+    detail.in_transaction = is_open;
     Some(detail)
 }
 
@@ -49,10 +50,22 @@ pub fn clock_detail(memory: Memory, clock: i64, last: Option<i64>) -> Option<Det
     Some(Detail::of(words))
 }
 
-/// Returns the detail of a moment before the horizon (E45), which is in microseconds since 1970-01-01.
-pub fn horizon_detail(memory: Memory, horizon: i64) -> Option<Detail> {
-    let words = with_moment(memory, "the horizon is ", horizon).ok()?;
-    Some(Detail::of(words))
+/// Returns the words that say that a moment is before the horizon.
+fn early_words(memory: Memory, moment: i64, horizon: i64) -> Result<Words, AllocError> {
+    let mut words = with_moment(memory, "", moment)?;
+    words.push_str(" is before the horizon, ")?;
+    push_view(&mut words, View::Moment(horizon))?;
+    Ok(words)
+}
+
+/// Returns the detail of a statement with a moment before the horizon (E45), from the horizon and, if known, that
+/// moment. Both are in microseconds since 1970-01-01.
+pub fn horizon_detail(memory: Memory, horizon: i64, moment: Option<i64>) -> Option<Detail> {
+    let words = match moment {
+        Some(moment) => early_words(memory, moment, horizon),
+        None => with_moment(memory, "the horizon is ", horizon),
+    };
+    Some(Detail::of(words.ok()?))
 }
 
 /// Returns the words that say whether a reader is open.

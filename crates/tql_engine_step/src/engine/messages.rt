@@ -5,6 +5,8 @@ ghost use Rattle.std.specs.Prelude.{◌<◌, length};
 use crate::engine::Engine;
 use crate::sense::read_statement;
 use std::alloc::AllocError;
+use tql_bind::binder::bind;
+use tql_bind::limits::Limits;
 use tql_bind_expr::texts::{is_same_text, meant};
 use tql_bound::bound::Bound;
 use tql_bound::change::{Insertion, Modification, QueryInsertion};
@@ -21,6 +23,7 @@ use tql_plan_access::choosing::change_access;
 use tql_row_message::calculations::{change_detail, query_detail};
 use tql_row_message::cells::{Cells, Subject};
 use tql_row_message::faults::{fault_detail, value_detail};
+use tql_row_message::horizon::early_moment;
 use tql_row_message::keys::{Rival, key_detail};
 use tql_row_message::references::{missing_detail, referenced_detail};
 use tql_row_message::state::{
@@ -28,6 +31,7 @@ use tql_row_message::state::{
 };
 use tql_store::store::Delta;
 use tql_syntax_tree::statement::Statement;
+use tql_value::calendar::FIRST_MOMENT;
 use tql_value::refusal::Refusal;
 use tql_value::value::Value;
 use tql_value::when::When;
@@ -144,7 +148,8 @@ impl<I: IntervalIndex> Engine<I> {
         }
     }
 
-    /// Returns the detail of a change none of whose rows fails by itself.
+    /// Returns the detail of a change that violates a key or a reference. Each of its rows passes the tests that need
+    /// no other row.
     fn change_fault(
         &self,
         place: usize,
@@ -313,6 +318,21 @@ impl<I: IntervalIndex> Engine<I> {
         reader_detail(self.memory, name.as_str(), opens, is_open)
     }
 
+    /// Returns the moment before the horizon for which a statement is refused (E45). The statement is bound again with
+    /// the first moment as the horizon, before which there is none. None if it then has another fault, or if an
+    /// allocation is refused.
+    fn early_moment_of(&self, text: &[u8]) -> Option<i64> {
+        let tree = read_statement(self.memory, text).ok()?;
+        let limits = Limits {
+            horizon: FIRST_MOMENT,
+            readers: &self.readers,
+        };
+        match bind(self.memory, &self.tables, &tree.statement, &limits) {
+            Ok(bound) => early_moment(&bound, self.store.horizon()),
+            Err(_) => None,
+        }
+    }
+
     /// Returns the detail that the state of the engine gives to a refused statement (E40, E41 and E45 to E47). None for
     /// any other refusal, or if an allocation is refused.
     pub(super) fn state_detail(&self, text: &[u8], refusal: Refusal) -> Option<Detail> {
@@ -321,7 +341,10 @@ impl<I: IntervalIndex> Engine<I> {
                 transaction_detail(self.memory, self.store.has_transaction())
             }
             Refusal::MomentNotAllowed => clock_detail(self.memory, self.next, self.store.pin()),
-            Refusal::BeforeTheHorizon => horizon_detail(self.memory, self.store.horizon()),
+            Refusal::BeforeTheHorizon => {
+                let moment = self.early_moment_of(text);
+                horizon_detail(self.memory, self.store.horizon(), moment)
+            }
             Refusal::ReaderNotUsable => self.reader_fault(text),
             Refusal::ReadersAreOpen => {
                 let name = self.readers.first()?.name.as_str();
