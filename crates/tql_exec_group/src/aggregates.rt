@@ -1,12 +1,12 @@
 //! Aggregates over the rows of a group: ISO/IEC 9075-2:2011, 10.9 `<aggregate function>`.
-ghost use Rattle.std.specs.Prelude.{◌≡◌, ℕ, ◌<◌, ◌^◌, ◌+◌, [], length, Some};
+ghost use Rattle.std.specs.Prelude.{◌≡◌, ℕ, ◌<◌, ◌^◌, ◌+◌, [], length, Some, if◌then◌else◌};
 ghost use Rattle.tql_spec.specs.Datum as pure;
 ghost use Rattle.tql_spec.specs.Expression as bound;
 ghost use Rattle.tql_value.specs.Views.{datum_of_view, outcome};
 ghost use Rattle.tql_expr.specs.Meaning.{expr, HasExpr, HasOperand, aggregate as tree_of};
 ghost use Rattle.tql_expr.specs.Trees.{plain_function};
 ghost use Rattle.tql_exec_group.specs.Members.{members};
-ghost use Rattle.tql_exec_group.specs.Folds.{added, is_better, IsWithin, of_present, the_better};
+ghost use Rattle.tql_exec_group.specs.Folds.{added, is_better, IsWithin, of_present, sum_behind, the_better};
 
 use crate::group::Group;
 use tql_exec_join::joined::Joined;
@@ -40,7 +40,7 @@ fn count<'a>(terms: &'a Terms, x: ExprId, rows: &'a Group<'_>) -> Result<View<'a
 }
 
 /// Returns the running sum with one more value. None as long as all values were NULL.
-fn with_value(sum: Option<i128>, value: View<'_>) -> Option<i128>
+pub(crate) fn with_value(sum: Option<i128>, value: View<'_>) -> Option<i128>
     requires { IsWithin (2 ^ 63) sum }
     ensures is { result ≡ added sum (datum_of_view value.entry) }
     ensures within { (n : ℕ) → IsWithin n sum → IsWithin (n + 1) result }
@@ -63,6 +63,13 @@ fn sum<'a>(terms: &'a Terms, x: ExprId, rows: &'a Group<'_>) -> Result<View<'a>,
     for place in 0..rows.len() {
         sum = with_value(sum, value_alone(terms, x, rows.row(place))?);
     }
+    summed(sum)
+}
+
+/// Returns the sum as a value: `Range` if it overflows 64 bits, NULL if all values were NULL.
+pub(crate) fn summed<'a>(sum: Option<i128>) -> Result<View<'a>, Range>
+    ensures { outcome result ≡ sum_behind sum [] }
+{
     match sum {
         None => Ok(View::Null),
         Some(sum) => exact(sum),
@@ -79,9 +86,11 @@ fn exact<'a>(number: i128) -> Result<View<'a>, Range>
     }
 }
 
-/// Returns the greater or the lesser of two values. NULL loses to any value, and of equal values the first is returned.
-fn better<'a>(greatest: bool, a: View<'a>, b: View<'a>) -> View<'a>
-    ensures { datum_of_view result ≡ the_better greatest (datum_of_view a.entry) (datum_of_view b.entry) }
+/// Whether the second of two values is the greater or the lesser one. NULL loses to any value, and of equal values the
+/// first is kept.
+pub(crate) fn is_beaten(greatest: bool, a: View<'_>, b: View<'_>) -> bool
+    ensures { (if result then datum_of_view b.entry else datum_of_view a.entry)
+        ≡ the_better greatest (datum_of_view a.entry) (datum_of_view b.entry) }
 {
     let order = order(b, a);
     let is_better = if greatest {
@@ -89,13 +98,14 @@ fn better<'a>(greatest: bool, a: View<'a>, b: View<'a>) -> View<'a>
     } else {
         order.is_lt()
     };
-    if b.is_null() {
-        a
-    } else if a.is_null() || is_better {
-        b
-    } else {
-        a
-    }
+    !b.is_null() && (a.is_null() || is_better)
+}
+
+/// Returns the greater or the lesser of two values. NULL loses to any value, and of equal values the first is returned.
+fn better<'a>(greatest: bool, a: View<'a>, b: View<'a>) -> View<'a>
+    ensures { datum_of_view result ≡ the_better greatest (datum_of_view a.entry) (datum_of_view b.entry) }
+{
+    if is_beaten(greatest, a, b) { b } else { a }
 }
 
 /// Returns the least or the greatest value. NULL if all values are NULL.

@@ -2,6 +2,8 @@
 #![tactic(auto)]
 
 mod aggregates;
+pub mod fold;
+pub mod folding;
 mod group;
 mod runs;
 pub mod showing;

@@ -7,7 +7,7 @@ use Rattle.tql_value.specs.Views.{datum_of_view}
 use Rattle.tql_expr.specs.Meaning.{expr}
 use Rattle.tql_exec_group.specs.Folds.{is_better, of_present}
 use Rattle.tql_exec_group.specs.Members.{members}
-use Rattle.tql_exec_group.proofs.Folding.{more_present}
+use Rattle.tql_exec_group.proofs.Remaining.{more_present}
 use Rattle.tql_exec_group.proofs.Bests.{one_better}
 use Rattle.tql_exec_group.proofs.aggregates.best.Goals as goal
 

@@ -4,7 +4,7 @@ use Rattle.tql_value.specs.Views.{datum_of_view}
 use Rattle.tql_expr.specs.Meaning.{expr}
 use Rattle.tql_exec_group.specs.Folds.{sum_behind}
 use Rattle.tql_exec_group.specs.Members.{members}
-use Rattle.tql_exec_group.proofs.Folding.{more_present}
+use Rattle.tql_exec_group.proofs.Remaining.{more_present}
 use Rattle.tql_exec_group.proofs.Bests.{one_summed}
 use Rattle.tql_exec_group.proofs.aggregates.sum.Goals as goal
 

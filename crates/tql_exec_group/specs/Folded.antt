@@ -1,0 +1,49 @@
+-- Aggregates over the rows that an accumulator has taken.
+use Rattle.std.specs.Prelude.{◌≡◌, Bool, true, false, List, [], ◌∷◌, ◌++◌, ◌+◌, length, pos, Option, Some, None, ⊤}
+use Rattle.std.specs.Prelude.{if◌then◌else◌, not}
+use Rattle.std.specs.List.{AllZip}
+use Rattle.tql_spec.specs.Datum.{Datum, Row, Int, is_null}
+use Rattle.tql_spec.specs.Expression.{aggregate, best, Expr, Function, Count, Sum, Min, Max}
+use Rattle.tql_value.specs.Views.{datum_of_value}
+use Rattle.tql_expr.specs.Meaning.{expr}
+use Rattle.tql_expr.specs.Trees.{plain_function}
+use Rattle.tql_expr.specs.declared.terms.Aggregate.{Aggregate}
+use Rattle.tql_expr.specs.declared.terms.Aggregate.TheVariants.{Rows, Over}
+use Rattle.tql_expr.specs.declared.terms.Terms.{Terms}
+use Rattle.tql_exec_group.specs.Folds.{is_better, of_present, sum_behind}
+use Rattle.tql_exec_group.specs.declared.fold.Accumulator.{Accumulator}
+
+-- this value if it is not null, and these
+abbrev pub after : Datum → List Datum → List Datum
+after v vs = if not (is_null v) then v ∷ vs else vs
+
+-- the result of a function over the values so far and these, which are not null
+abbrev pub rest_of : Function → Accumulator → List Datum → Option Datum
+rest_of Count a vs = Some (Int (pos (a.values + length vs)))
+rest_of Sum a vs = sum_behind a.sum vs
+rest_of Min a vs = Some (best (is_better false) (after (datum_of_value a.best) vs))
+rest_of Max a vs = Some (best (is_better true) (after (datum_of_value a.best) vs))
+
+-- the same for the values of an expression on these rows; none if it was out of range on a row so far
+abbrev pub told_with : Bool → (List Datum → Option Datum) → Expr → List Row → Option Datum
+told_with true f e more = None
+told_with false f e more = of_present f e more
+
+-- whichever rows follow, the values so far and theirs give the aggregate over all rows
+abbrev pub Represents : Terms → Aggregate → Accumulator → List Row → Type 0
+Represents t Rows a rows = ⊤
+Represents t (Over f x) a rows = (more : List Row) → told_with a.is_out (rest_of (plain_function f) a) (expr t x) more
+    ≡ of_present (aggregate (plain_function f)) (expr t x) (rows ++ more)
+
+-- the accumulator has taken these rows
+pub record HasFolded (t : Terms) (which : Aggregate) (a : Accumulator) (rows : List Row) : Type 0 where
+  pub counted : a.rows ≡ length rows
+  pub folds : Represents t which a rows
+
+-- it takes one more row
+abbrev pub Takes : Terms → Aggregate → Accumulator → Accumulator → Row → Type 0
+Takes t which old new row = (rows : List Row) → HasFolded t which old rows → HasFolded t which new (rows ++ row ∷ [])
+
+-- the accumulators of these aggregates have taken these rows
+abbrev pub HaveFolded : Terms → List Aggregate → List Accumulator → List Row → Type 0
+HaveFolded t aggregates folds rows = AllZip (λ which a. HasFolded t which a rows) aggregates folds

@@ -1,0 +1,196 @@
+//! Accumulators: an aggregate over rows that are taken one at a time, none of which is kept.
+ghost use Rattle.std.specs.Prelude.{◌≡◌, ◌+◌, ◌<◌, ◌≤◌, ◌^◌, ◌∷◌, [], IfOk, List, if◌then◌else◌};
+ghost use Rattle.tql_spec.specs.Datum as pure;
+ghost use Rattle.tql_spec.specs.Expression as bound;
+ghost use Rattle.tql_value.specs.Views.{datum_of_value, datum_of_view};
+ghost use Rattle.tql_exec_group.specs.Folds.{IsWithin, the_better};
+
+use crate::aggregates::{is_beaten, summed, with_value};
+use std::alloc::AllocError;
+use tql_exec_join::tuple::Tuple;
+use tql_expr::node::Function;
+use tql_expr::terms::{Aggregate, Terms};
+use tql_memory::Memory;
+use tql_value::arithmetic::Range;
+use tql_value::refusal::Refusal;
+use tql_value::value::{Value, View};
+
+/// The greatest number of rows that are taken: 64 bits, signed, can count them, and 128 bits can sum a value of each.
+const MOST: u64 = 0x7fff_ffff_ffff_ffff;
+
+/// An aggregate over the rows so far. The value of each function stands in a field of its own: the count in `values`,
+/// the sum in `sum`, and the least or greatest value in `best`.
+pub struct Accumulator {
+    /// The number of rows.
+    rows: u64,
+    /// The number of rows on which the operand was not NULL.
+    values: u64,
+    /// The sum; `None` as long as all values were NULL.
+    sum: Option<i128>,
+    /// The least or the greatest value; NULL as long as all values were NULL.
+    best: Value,
+    /// Whether the operand was out of range on some row.
+    is_out: bool,
+    ghost few: { rows < 2 ^ 63 },
+    ghost counted: { values ≤ rows },
+    ghost within: { IsWithin rows sum },
+}
+
+impl Drop for Accumulator {
+    fn drop(self) {
+        let Accumulator {
+            rows: _,
+            values: _,
+            sum: _,
+            best,
+            is_out: _,
+        } = self;
+        drop(best);
+    }
+}
+
+/// Copies a value into memory of its own. The only error is a refused allocation.
+fn copy_of(memory: Memory, value: View<'_>) -> Result<Value, AllocError>
+    ensures { IfOk result (λ v. datum_of_value v ≡ datum_of_view value.entry) }
+{
+    match value.to_value(memory) {
+        Ok(value) => Ok(value),
+        Err(_) => Err(AllocError),
+    }
+}
+
+/// Returns a count with one more value. NULL is not counted.
+fn with_count(values: u64, value: View<'_>) -> u64
+    requires { values < 2 ^ 63 }
+    ensures { result ≡ (if pure.is_null (datum_of_view value.entry) then values else values + 1) }
+{
+    if value.is_null() { values } else { values + 1 }
+}
+
+/// Replaces the best value so far by one that is better. A value that is not is not copied. The only error is a refused
+/// allocation.
+fn keep_better(
+    memory: Memory,
+    greatest: bool,
+    best: &mut Value,
+    value: View<'_>,
+) -> Result<(), AllocError>
+    ensures { IfOk result (λ _. datum_of_value best.new
+        ≡ the_better greatest (datum_of_value best.old) (datum_of_view value.entry)) }
+{
+    if !is_beaten(greatest, best.view(), value) {
+        return Ok(());
+    }
+    *best = copy_of(memory, value)?;
+    Ok(())
+}
+
+impl Accumulator {
+    ghost use Rattle.std.specs.Prelude.{◌≡◌, ◌+◌, ◌<◌, ◌∷◌, [], IfOk, List};
+    ghost use Rattle.tql_spec.specs.Datum as pure;
+    ghost use Rattle.tql_spec.specs.Expression as bound;
+    ghost use Rattle.tql_value.specs.Views.{datum_of_value, datum_of_view, outcome};
+    ghost use Rattle.tql_expr.specs.Evaluated.{Evaluated};
+    ghost use Rattle.tql_expr.specs.Meaning.{aggregate as tree_of, HasOperand};
+    ghost use Rattle.tql_expr.specs.Trees.{plain_function};
+    ghost use Rattle.tql_expr.specs.declared.terms.Aggregate.{Aggregate};
+    ghost use Rattle.tql_expr.specs.declared.terms.Terms.{Terms};
+    ghost use Rattle.tql_exec_join.specs.Tuples.{tuple_row};
+    ghost use Rattle.tql_exec_group.specs.Folded.{rest_of, told_with, HasFolded, Takes};
+
+    /// Returns the accumulator of no rows.
+    pub(crate) fn new() -> Accumulator
+        ensures { (t : Terms) (which : Aggregate) → HasFolded t which result [] }
+    {
+        Accumulator {
+            rows: 0,
+            values: 0,
+            sum: None,
+            best: Value::Null,
+            is_out: false,
+        }
+    }
+
+    /// Takes the value of the operand on one more row. The only error is a refused allocation.
+    fn add(&mut self, memory: Memory, function: Function, value: View<'_>) -> Result<(), AllocError>
+        requires { self.old.rows + 1 < 2 ^ 63 }
+        ensures rows { IfOk result (λ _. self.new.rows ≡ self.old.rows + 1) }
+        ensures out { self.new.is_out ≡ self.old.is_out }
+        ensures folds { IfOk result (λ _. (vs : List pure.Datum)
+            → rest_of (plain_function function) self.new (bound.present vs)
+            ≡ rest_of (plain_function function) self.old (bound.present (datum_of_view value.entry ∷ vs))) }
+    {
+        self.rows += 1;
+        match function {
+            Function::Count => self.values = with_count(self.values, value),
+            Function::Sum => self.sum = with_value(self.sum, value),
+            Function::Min => keep_better(memory, false, &mut self.best, value)?,
+            Function::Max => keep_better(memory, true, &mut self.best, value)?,
+        }
+        Ok(())
+    }
+
+    /// Takes one more row. The operand is evaluated once. That it is out of range is remembered. The only error is a
+    /// refused allocation, which is also reported for more rows than 64 bits can count.
+    pub(crate) fn take(
+        &mut self,
+        memory: Memory,
+        terms: &Terms,
+        which: Aggregate,
+        row: &Tuple<'_>,
+    ) -> Result<(), AllocError>
+        requires { HasOperand terms.now which }
+        ensures { IfOk result (λ _. Takes terms.now which self.old self.new (tuple_row row.now)) }
+    {
+        if self.rows == MOST {
+            return Err(AllocError);
+        }
+        let Aggregate::Over(function, x) = which else {
+            self.rows += 1;
+            return Ok(());
+        };
+        match terms.eval(x, row) {
+            Ok(value) => self.add(memory, function, value),
+            Err(_) => {
+                self.rows += 1;
+                self.is_out = true;
+                Ok(())
+            }
+        }
+    }
+
+    /// Returns the result of a function over the values so far, or `Range` if a sum overflows 64 bits.
+    fn result(&self, function: Function) -> Result<View<'_>, Range>
+        ensures { outcome result ≡ rest_of (plain_function function) self.now [] }
+    {
+        match function {
+            Function::Count => Ok(View::Int(self.values as i64)),
+            Function::Sum => summed(self.sum),
+            Function::Min | Function::Max => Ok(self.best.view()),
+        }
+    }
+
+    /// Returns the result of a function over the values so far. Refused if the sum or the operand was out of range, or
+    /// if out of memory.
+    fn told_over(&self, memory: Memory, function: Function) -> Result<Value, Refusal>
+        ensures { (e : bound.Expr) → Evaluated datum_of_value
+            (told_with self.now.is_out (rest_of (plain_function function) self.now) e []) result }
+    {
+        if self.is_out {
+            return Err(Refusal::ValueOutOfRange);
+        }
+        self.result(function)?.to_value(memory)
+    }
+
+    /// Returns the result of the aggregate over the rows so far. Refused if the result is out of range, or the operand
+    /// was on some row, or if out of memory.
+    pub(crate) fn told(&self, memory: Memory, which: Aggregate) -> Result<Value, Refusal>
+        ensures { (t : Terms) (rows : List pure.Row) (row : pure.Row) → HasFolded t which self.now rows
+            → Evaluated datum_of_value (bound.eval rows row (tree_of t which)) result }
+    {
+        match which {
+            Aggregate::Rows => Ok(Value::Int(self.rows as i64)),
+            Aggregate::Over(function, _) => self.told_over(memory, function),
+        }
+    }
+}
