@@ -1,5 +1,4 @@
 pub mod OverBags
-pub mod Printed
 pub mod Begun
 pub mod Early
 pub mod Looked
@@ -7,5 +6,4 @@ pub mod ByKey
 pub mod ByPeriod
 pub mod Passed
 pub mod Open
-pub mod Ranked
-pub mod RankedRows
+pub mod OverSinks

@@ -1,0 +1,3 @@
+pub mod Printed
+pub mod Ranked
+pub mod RankedRows
