@@ -247,10 +247,25 @@ def keys(size: int) -> tuple[str, str]:
     return made + "SELECT x FROM t WHERE x = 1 AND " + "y = 1 AND " * size + "z = 1;\n", ONE + ROW
 
 
+def joined(size: int) -> tuple[str, str]:
+    """Keys of two columns, of which an ON equates only the first, and as many conjuncts; the last key is the only one whose columns it equates both."""
+    made = "CREATE TABLE t (x INTEGER, y INTEGER, z INTEGER"
+    made += ", UNIQUE (x, z)" * size + ", UNIQUE (x, y));\nINSERT INTO t VALUES (1, 1, 1);\n"
+    return made + "SELECT a.x FROM t a JOIN t b ON a.x = b.x" + " AND a.y = b.y" * size + ";\n", ONE + ROW
+
+
 def parents(size: int) -> tuple[str, str]:
     """So many keys, and as many references to the last of them."""
     made = "CREATE TABLE p (x INTEGER, y INTEGER" + ", UNIQUE (x)" * size + ", UNIQUE (x, y));\n"
     return made + "CREATE TABLE c (x INTEGER, y INTEGER" + ", FOREIGN KEY (x, y) REFERENCES p (x, y)" * size + ");\n", "CREATE TABLE\n" * 2
+
+
+def timespans(size: int) -> tuple[str, str]:
+    """So many application periods, and as many keys and references, each by another of them: a table has one at most."""
+    made = "CREATE TABLE p (x INTEGER, f DATE, u DATE, PERIOD FOR v (f, u), PRIMARY KEY (x, v WITHOUT OVERLAPS));\n"
+    lists = "".join(f", PERIOD FOR p{it} (f, u), UNIQUE (x, p{it} WITHOUT OVERLAPS), FOREIGN KEY (x, PERIOD p{it}) REFERENCES p (x, PERIOD v)"
+                    for it in range(size))
+    return made + f"CREATE TABLE c (x INTEGER, f DATE, u DATE{lists});\n", "CREATE TABLE\n" + refused("E23 form not allowed here")
 
 
 def misspelt(size: int) -> tuple[str, str]:
@@ -271,8 +286,10 @@ FORMS = (
     ("an INSERT of unknown columns", 12500, filled, DOUBLE), ("an UPDATE of unknown columns", 12500, assigned, DOUBLE),
     ("a key of unknown columns", 12500, keyed, DOUBLE), ("a reference of unknown columns", 12500, referring, DOUBLE),
     ("a reference to unknown columns", 12500, referred, DOUBLE),
-    ("keys of two columns, and conjuncts of a WHERE", 2500, keys, TRIPLE),
+    ("keys of two columns, and conjuncts of a WHERE", 2500, keys, DOUBLE),
+    ("keys of two columns, and conjuncts of a join", 2500, joined, DOUBLE),
     ("keys, and references to the last", 2500, parents, DOUBLE),
+    ("application periods, and keys and references by them", 1000, timespans, DOUBLE),
     ("an unknown column of so many letters, and names of its table", 12500, misspelt, DOUBLE),
     ("keys of ORDER BY, each a heading", 6250, ordered, DOUBLE), ("items of the last column of GROUP BY", 25000, grouped, DOUBLE),
     ("INSERTs of one key value", 2500, one_by_one, DOUBLE), ("DELETE of half of the parents of one key value, beside children", 1250, half, DOUBLE),

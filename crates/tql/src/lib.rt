@@ -20,8 +20,9 @@
 //! `run` runs a script. It reads the script from a `Source` and writes the replies to a `Sink`: `SliceSource` and
 //! `VecSink` in memory, `StdSource` and `StdSink` over files and streams. A `Listener` receives the refused statements,
 //! their lines and, if known, the `Detail` of each. A detail has the `place`, what is wrong (`words`) and what to write
-//! (`hint`). For a row that fails it has the `constraint`, its `columns` and the number of the `row`. `Notes` records
-//! this; `Silence` ignores it. `run_in` writes the replies in another `Form` (`CsvForm`, `JsonForm`, `JsonlForm`,
+//! (`hint`). For a row that fails it has the `constraint`, its `columns` and the number of the `row`. If a transaction
+//! is open that must not be (`in_transaction`), it has the line that opened it (`since`). `Notes` records this;
+//! `Silence` ignores it. `run_in` writes the replies in another `Form` (`CsvForm`, `JsonForm`, `JsonlForm`,
 //! `BoxForm`), and can stop at the first refusal. `run_bytes` is the simple form: it runs a script in memory. A host
 //! that receives its bytes in parts uses a `Session`, which gives each answer as soon as its statement is complete.
 //! `write_csv_table` writes a table as comma-separated values, and `write_json_rows` writes it as JSON Lines.

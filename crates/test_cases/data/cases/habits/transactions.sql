@@ -1,0 +1,21 @@
+-- cases: growths in-turn
+-- The line on which the open transaction was opened, in refusals of E40. By hand.
+CREATE TABLE t (n INTEGER);
+COMMIT;
+-- The line is that of the first word; comments do not count.
+  START
+  TRANSACTION;
+INSERT INTO t VALUES (1);
+START TRANSACTION;
+CREATE TABLE u (n INTEGER);
+DROP TABLE t;
+COMMIT;
+COMMIT;
+START TRANSACTION; START TRANSACTION;
+ROLLBACK WORK; ROLLBACK;
+START TRANSACTION;
+AT TIMESTAMP '2011-01-01 00:00:00';
+INSERT INTO nowhere VALUES (1);
+PRUNE HISTORY BEFORE TIMESTAMP '2011-01-01 00:00:00';
+COMMIT WORK;
+ROLLBACK;
