@@ -12,6 +12,7 @@ pub mod Cuts
 pub mod Touching
 pub mod PieceTexts
 pub mod Texts
+pub mod Brief
 pub mod Modified
 pub mod PointChanges
 pub mod Failing

@@ -1,7 +1,7 @@
 //! The tests of new rows: text lengths, NOT NULL, application periods and CHECKs. All rows are tested, and the fault
 //! that comes first in the order of report is reported.
-ghost use Rattle.std.specs.Prelude.{◌≡◌, ◌&&◌, ◌++◌, All, map, option_map, slice_index_or};
-ghost use Rattle.tql_spec.specs.Datum.{is_null};
+ghost use Rattle.std.specs.Prelude.{◌≡◌, ◌&&◌, ◌++◌, All, map, nat_lt, option_map, slice_index_or};
+ghost use Rattle.tql_spec.specs.Datum.{characters as characters_of, is_null};
 ghost use Rattle.tql_spec.specs.Refusal.{PeriodNotRising, first, fault_if};
 ghost use Rattle.tql_spec.specs.Change.{is_too_long as too_long, cell_faults, check_fault};
 ghost use Rattle.tql_spec.specs.Words.{listed};
@@ -30,12 +30,20 @@ use tql_value::truth::Truth;
 use tql_value::value::{Value, View};
 use tql_versions::version::HIGH;
 
+/// Whether a text has more characters than a limit. The characters of a text of no more bytes than that are not
+/// counted.
+fn is_longer(text: &str, limit: u64) -> bool
+    ensures { result ≡ nat_lt limit (characters_of text.now) }
+{
+    limit < text.len() as u64 && limit < characters(text) as u64
+}
+
 /// Whether a value is a text with more characters than its column allows.
 fn is_too_long(column: &Column, value: &Value) -> bool
     ensures { result ≡ too_long column.now.limit (datum_of_value value.now) }
 {
     match (column.limit, value) {
-        (Some(limit), Value::Text(text)) => limit < characters(text.as_str()) as u64,
+        (Some(limit), Value::Text(text)) => is_longer(text.as_str(), limit),
         _ => false,
     }
 }
