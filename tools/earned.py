@@ -17,7 +17,6 @@ TOP = Path(__file__).resolve().parent.parent
 ALLOWED = {
     "tql_value/src/refusal.rt": (2, "From<AllocError> and From<AllocFailed<_>> for Refusal"),
     "tql_syntax_expr/src/cursor.rt": (3, "the same for ParseError, and ParseError's own refusal"),
-    "tql_exec_group/src/fold.rt": (2, "a refusal of View::to_value, which is one of memory, as AllocError; and the row 2^63 of a fold, which no run reaches"),
     "tql_run/src/piece.rt": (1, "the piece that stands for a text which found no memory"),
     "tql_run/src/runner.rt": (1, "From<AllocError> for Fault"),
     "tql_main/src/inputs.rt": (5, "what the program takes before a run was refused; there is no run then to say it"),

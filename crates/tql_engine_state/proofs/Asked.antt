@@ -8,6 +8,7 @@ use Rattle.std.specs.Ordering.{is_gt}
 use Rattle.std.specs.declared.cmp.Ordering.{Ordering}
 use Rattle.std.proofs.lemmas.Int.{ints}
 use Rattle.std.proofs.lemmas.List.Elements.{All-from_recursion, recursion_from_All}
+use Rattle.tql_spec.specs.Bag.{SameBag}
 use Rattle.tql_spec.specs.Words.{listed}
 use Rattle.tql_spec.specs.Calendar.{first_moment, high}
 use Rattle.tql_spec.specs.Datum.{Moment, Row}
@@ -17,6 +18,7 @@ use Rattle.tql_spec.specs.History.{has_version, rows_in, table_history, complete
 use Rattle.tql_spec.specs.History.{as_of_from, found_from, found, versions}
 use Rattle.tql_spec.specs.Machine.{State, entries}
 use Rattle.tql_spec.specs.Query.{OrderKey, placed, row_order, in_order}
+use Rattle.tql_spec.proofs.OrderBags.{order_is_one}
 use Rattle.tql_catalog.specs.Defined.{IsDefinition}
 use Rattle.tql_catalog.specs.Tables.{definitions_of}
 use Rattle.tql_catalog.specs.declared.catalog.Table.{Table}
@@ -270,6 +272,32 @@ ordered_all : (P : Row → Type 0) (keys : List OrderKey) (rows : List Row) → 
     → AllByRecursion P (in_order keys rows)
 ordered_all P keys [] e = tt
 ordered_all P keys (r ∷ rows) e = placed_all P (row_order keys) r (in_order keys rows) e.0 (ordered_all P keys rows e.1)
+
+-- conversely, a property of each row in the printed order holds of each row
+either_each : (P : Row → Type 0) (b : Bool) (r x : Row) (xs later : List Row)
+    → (AllByRecursion P later → AllByRecursion P (r ∷ xs))
+    → AllByRecursion P (if b then x ∷ later else r ∷ x ∷ xs) → AllByRecursion P (r ∷ x ∷ xs)
+either_each P true r x xs later k h = let rest = k h.1 in (rest.0, (h.0, rest.1))
+either_each P false r x xs later k h = h
+
+placed_each : (P : Row → Type 0) (R : Row → Row → Ordering) (r : Row) (xs : List Row) → AllByRecursion P (placed R r xs)
+    → AllByRecursion P (r ∷ xs)
+placed_each P R r [] h = h
+placed_each P R r (x ∷ xs) h = either_each P (is_gt (R r x)) r x xs (placed R r xs) (placed_each P R r xs) h
+
+ordered_each : (P : Row → Type 0) (keys : List OrderKey) (rows : List Row) → AllByRecursion P (in_order keys rows)
+    → AllByRecursion P rows
+ordered_each P keys [] h = tt
+ordered_each P keys (r ∷ rows) h =
+    let all = placed_each P (row_order keys) r (in_order keys rows) h in (all.0, ordered_each P keys rows all.1)
+
+-- printable rows are printable in any order
+pub bag_prints : (rows bag : List Row) → SameBag rows bag → All (All IsPrintable) bag → ArePrintable rows
+bag_prints rows bag same h =
+    All-from_recursion (All IsPrintable) rows
+    (ordered_each (All IsPrintable) [] rows
+    (subst (AllByRecursion (All IsPrintable)) (sym (order_is_one [] rows bag same))
+    (ordered_all (All IsPrintable) [] bag (recursion_from_All (All IsPrintable) bag h))))
 
 -- printable rows are printable in the order of the query too
 pub ordered_prints : (keys : List OrderKey) (rows : List Row) → All (All IsPrintable) rows

@@ -26,7 +26,7 @@ use Rattle.tql_bound.specs.declared.query.BoundQuery.{BoundQuery}
 use Rattle.tql_bound.specs.declared.reference.Reference.{Reference}
 use Rattle.tql_catalog.specs.Tables.{definitions_of}
 use Rattle.tql_catalog.specs.declared.catalog.Table.{Table}
-use Rattle.tql_exec.specs.Found.{AreRows, IsReadable, bags_in, completed}
+use Rattle.tql_exec_read.specs.Found.{AreRows, IsReadable, bags_in, completed}
 use Rattle.tql_expr.specs.Meaning.{cond}
 use Rattle.tql_expr.specs.declared.terms.Terms.{Terms}
 use Rattle.tql_plan_access.specs.Access.{IsRow, period_columns}

@@ -4,9 +4,10 @@ use Rattle.std.proofs.Common.{Some, None, Result, Ok, Err, refl}
 use Rattle.std.specs.Prelude.{All, IfOk, nat_lt, slice_set, string_bytes, if◌then◌else◌}
 use Rattle.std.proofs.lemmas.Bool.Decides.{nat_tests}
 use Rattle.std.proofs.lemmas.List.Elements.{All-nil}
+use Rattle.tql_spec.specs.Bag.{SameBag}
 use Rattle.tql_spec.specs.Datum.{Row}
 use Rattle.tql_spec.specs.History.{Copy, Entry}
-use Rattle.tql_spec.specs.Query.{OrderKey, Query, Ref, answer, in_order}
+use Rattle.tql_spec.specs.Query.{Query, Ref, answer}
 use Rattle.tql_spec.specs.Refusal as faults
 use Rattle.tql_spec.specs.Refusal.{first}
 use Rattle.tql_spec.specs.Change as change
@@ -27,7 +28,7 @@ use Rattle.tql_bound.specs.Queries.{bound_query_of}
 use Rattle.tql_bound.specs.declared.query.BoundQuery.{BoundQuery}
 use Rattle.tql_expr.proofs.Printing.{RowsPrint}
 use Rattle.tql_expr.proofs.QueryPrinting.{AllPrint, answers_print, items_literals}
-use Rattle.tql_exec.specs.Found.{ordered}
+use Rattle.tql_exec_join.specs.Bags.{IsBag}
 use Rattle.tql_catalog.specs.Tables.{definitions_of}
 use Rattle.tql_catalog.specs.declared.catalog.Table.{Table}
 use Rattle.tql_engine_state.specs.Allowed.{IsAllowed}
@@ -35,7 +36,7 @@ use Rattle.tql_engine_state.specs.Readers.{pin_of}
 use Rattle.tql_engine_state.specs.Showing.{FitsTables}
 use Rattle.tql_engine_state.specs.Stands.{EngineModel, StandsFor}
 use Rattle.tql_engine_state.specs.Effects.{DoesStep}
-use Rattle.tql_engine_state.proofs.Asked.{fits_now, found_print, ordered_prints}
+use Rattle.tql_engine_state.proofs.Asked.{bag_prints, fits_now, found_print, ordered_prints}
 use Rattle.tql_engine_state.proofs.Copies.{chosen}
 use Rattle.tql_engine_state.proofs.Finding.{placed_ref, table_there}
 use Rattle.tql_engine_state.proofs.ReadersShow.{at_pin, fits_pinned, read_is}
@@ -103,12 +104,12 @@ answer_prints tables s x f placed =
     (items_literals x.terms x.items.items))
 
 -- in any order
-pub rows_print : (keys : List OrderKey) (o : Option (List Row)) (rows : List Row) → RowsPrint o
-    → ordered keys o ≡ Some rows → ArePrintable rows
-rows_print keys None rows k e = absurd (cc)
-rows_print keys (Some bag) rows k e = subst ArePrintable (inside (in_order keys bag) rows e) (ordered_prints keys bag k)
+pub rows_print : (o : Option (List Row)) (rows : List Row) → RowsPrint o → IsBag o rows → ArePrintable rows
+rows_print None rows k b = absurd (let e = b.is in cc)
+rows_print (Some wanted) rows k b =
+    bag_prints rows wanted (subst (SameBag rows) (inside wanted b.bag b.is) b.same) k
   where
-    inside : (xs ys : List Row) → Some xs ≡ Some ys → xs ≡ ys
+    inside : (xs ys : List Row) → Some xs ≡ Some ys → ys ≡ xs
     inside xs ys e = cc
 
 -- the reply to a query can be printed

@@ -9,7 +9,7 @@ use Rattle.tql_spec.specs.ChangeLaws.{InsertsKeepNoOrder, SameOutcome}
 use Rattle.tql_spec.specs.Datum.{Row}
 use Rattle.tql_spec.specs.Definition.{Stamped}
 use Rattle.tql_spec.specs.Machine.{State, Refused, ChangeRows, bag_of, outcome, step}
-use Rattle.tql_spec.specs.Query.{OrderKey, answer, in_order}
+use Rattle.tql_spec.specs.Query.{answer}
 use Rattle.tql_spec.specs.Refusal as spec
 use Rattle.tql_spec.specs.Refusal.{ValueOutOfRange, first}
 use Rattle.tql_bound.specs.Changes.{query_insertion_of}
@@ -17,8 +17,7 @@ use Rattle.tql_bound.specs.Queries.{bound_query_of}
 use Rattle.tql_bound.specs.declared.change.QueryInsertion.{QueryInsertion}
 use Rattle.tql_catalog.specs.Rows.{IsRowOf}
 use Rattle.tql_catalog.specs.declared.catalog.Table.{Table}
-use Rattle.tql_spec.proofs.OrderBags.{ordered_bag}
-use Rattle.tql_exec.specs.Found.{ordered}
+use Rattle.tql_exec_join.specs.Bags.{IsBag}
 use Rattle.tql_expr.specs.Evaluated.{Fails}
 use Rattle.tql_dml.specs.Alters.{Alters, Gives, added_rows}
 use Rattle.tql_spec.proofs.Bags.{same-sym, same-trans}
@@ -45,30 +44,11 @@ use Rattle.tql_spec.specs.Machine.{query_faults}
 
 -- ---- the result for the rows
 
-ordered_same : (keys : List OrderKey) (rows : List Row) → SameBag (in_order keys rows) rows
-ordered_same keys rows = record { totals = λ w. ordered_bag keys w rows }
-
--- the ordered rows are those of the answer
-bag_behind : (keys : List OrderKey) (o : Option (List Row)) (rows : List Row) → ordered keys o ≡ Some rows
-    → (bag : List Row) × (o ≡ Some bag) × SameBag rows bag
-bag_behind keys None rows e = absurd (cc)
-bag_behind keys (Some bag) rows e =
-    (bag, refl, subst (λ xs. SameBag xs bag) (inside (in_order keys bag) rows e) (ordered_same keys bag))
-  where
-    inside : (xs ys : List Row) → Some xs ≡ Some ys → xs ≡ ys
-    inside xs ys e = cc
-
-none_behind : (keys : List OrderKey) (o : Option (List Row)) → ordered keys o ≡ None → o ≡ None
-none_behind keys None e = refl
-none_behind keys (Some bag) e = absurd (cc)
-
 -- the query has no answer
 pub not_answered : (s : State) (p : Table) (x : QueryInsertion) (e : Refusal)
-    → Fails (ordered (bound_query_of x.query).ordering (answer (bag_of s) (bound_query_of x.query))) e
-    → Adds s p x (Err e)
+    → Fails (answer (bag_of s) (bound_query_of x.query)) e → Adds s p x (Err e)
 not_answered s p x r.OutOfMemory f = tt
-not_answered s p x r.ValueOutOfRange f =
-    inl (refl, none_behind (bound_query_of x.query).ordering (answer (bag_of s) (bound_query_of x.query)) f)
+not_answered s p x r.ValueOutOfRange f = inl (refl, f)
 not_answered s p x _ f = absurd f
 
 by_result : (s : State) (p : Table) (x : QueryInsertion) (result : Result Delta Refusal) → Added s p x result
@@ -77,15 +57,14 @@ by_result s p x (Ok delta) a fits = (a, fits)
 by_result s p x (Err r.OutOfMemory) a fits = tt
 by_result s p x (Err _) a fits = inr a
 
--- the result for the rows of the answer
+-- the result for the rows of the answer, in any order
 pub adds_of : (s : State) (p : Table) (x : QueryInsertion) (rows : List Row) (result : Result Delta Refusal)
-    → ordered (bound_query_of x.query).ordering (answer (bag_of s) (bound_query_of x.query)) ≡ Some rows
+    → IsBag (answer (bag_of s) (bound_query_of x.query)) rows
     → Alters p.id [] (λ m. (added_rows p.definition x.columns.items (Some rows) m).rows)
     (added_rows p.definition x.columns.items (Some rows)) result
     → IfOk result (λ delta. All (IsRowOf p.definition) (rows_of delta.added.items)) → Adds s p x result
-adds_of s p x rows result e alters fits =
-    let k = bag_behind (bound_query_of x.query).ordering (answer (bag_of s) (bound_query_of x.query)) rows e in
-    by_result s p x result (record { bag = k.0; answered = k.1; rows = rows; same = k.2; alters = alters }) fits
+adds_of s p x rows result b alters fits =
+    by_result s p x result (record { bag = b.bag; answered = b.is; rows = rows; same = b.same; alters = alters }) fits
 
 -- ---- the step of the reference model
 

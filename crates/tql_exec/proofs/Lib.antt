@@ -1,9 +1,8 @@
 pub mod OverBags
 pub mod Begun
 pub mod Early
-pub mod Looked
+pub mod ScanRows
 pub mod ByKey
 pub mod ByPeriod
 pub mod Passed
-pub mod Open
 pub mod OverSinks

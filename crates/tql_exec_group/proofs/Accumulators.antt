@@ -1,29 +1,34 @@
 -- One more row in an accumulator.
-use Rattle.std.specs.Prelude.{◌≡◌, refl, ℕ, ◌+◌, ◌<◌, ◌^◌, Bool, true, false, List, [], ◌∷◌, ◌++◌, length}
-use Rattle.std.specs.Prelude.{slice_index_or, Option, Some, None, Result, Ok, Err, IfOk}
+use Rattle.std.specs.Prelude.{◌≡◌, refl, ℕ, ◌+◌, ◌-◌, ◌<◌, ◌≤◌, ◌^◌, Bool, true, false, List, [], ◌∷◌, ◌++◌, length}
+use Rattle.std.specs.Prelude.{slice_index_or, nat_eq, Option, Some, None, pos, if◌then◌else◌, Result, Ok, Err, IfOk}
+use Rattle.std.specs.Prelude.{IfErr, MatchResult}
 use Rattle.std.proofs.Common.{sym, ap, subst, append_assoc, append-nil, ◌∙◌, arith}
+use Rattle.std.proofs.Math.Bool.{◌||◌}
+use Rattle.std.proofs.lemmas.Bool.{eqb-true}
 use Rattle.std.proofs.lemmas.List.{length-append}
-use Rattle.tql_spec.specs.Words.{map_all, with_front}
-use Rattle.tql_spec.specs.Datum.{Datum, Row}
+use Rattle.tql_spec.specs.Words.{◌>>=◌, map_all, with_front}
+use Rattle.tql_spec.specs.Datum.{Datum, Row, Int, fits}
 use Rattle.tql_spec.specs.Expression.{aggregate, best, eval, Expr, present}
+use Rattle.tql_spec.specs.Expression as bound
 use Rattle.tql_spec.specs.Query.{of_group}
 use Rattle.tql_spec.specs.QueryLaws.{shown}
 use Rattle.tql_value.specs.Views.{datum_of_value}
 use Rattle.tql_value.specs.declared.refusal.Refusal.{Refusal}
+use Rattle.tql_value.specs.declared.refusal.Refusal.TheVariants.{OutOfMemory}
 use Rattle.tql_value.specs.declared.value.Value.{Value}
 use Rattle.tql_expr.specs.Evaluated.{Evaluated}
 use Rattle.tql_expr.specs.Meaning.{expr, aggregate as tree_of}
 use Rattle.tql_expr.specs.Trees.{plain_function}
 use Rattle.tql_expr.specs.declared.node.Function as code
 use Rattle.tql_expr.specs.declared.terms.Aggregate.{Aggregate}
-use Rattle.tql_expr.specs.declared.terms.Aggregate.TheVariants.{Over}
+use Rattle.tql_expr.specs.declared.terms.Aggregate.TheVariants.{Rows, Over}
 use Rattle.tql_expr.specs.declared.terms.ExprId.{ExprId}
 use Rattle.tql_expr.specs.declared.terms.Terms.{Terms}
-use Rattle.tql_exec_group.specs.Folds.{is_better, of_present, the_better}
-use Rattle.tql_exec_group.specs.Folded.{after, rest_of, told_with, HasFolded, Takes}
+use Rattle.tql_exec_group.specs.Folds.{is_better, of_present, sum_behind, the_better}
+use Rattle.tql_exec_group.specs.Folded.{after, rest_of, HasFolded, IsOut, Takes}
 use Rattle.tql_exec_group.specs.declared.fold.Accumulator.{Accumulator}
-use Rattle.tql_exec_group.proofs.Bests.{one_better, over_few}
-use Rattle.tql_exec_group.proofs.Remaining.{more_present, one_lacks}
+use Rattle.tql_exec_group.proofs.Bests.{one_better, over_few, too_great}
+use Rattle.tql_exec_group.proofs.Remaining.{more_present}
 
 -- ---- whatever rows follow
 
@@ -32,23 +37,44 @@ module _ (e : Expr) (rows : List Row) (r : Row) (g : List Datum → Option Datum
   one_moved more = ap (of_present g e) (sym (append_assoc rows (r ∷ []) more))
 
   -- a row on which the expression has a value
-  pub one_more_told : (is_out : Bool) (h h' : List Datum → Option Datum) (v : Datum)
+  one_more_told : (h h' : List Datum → Option Datum) (v : Datum)
       → ((vs : List Datum) → h' (present vs) ≡ h (present (v ∷ vs))) → Some v ≡ eval [] r e
-      → ((more : List Row) → told_with is_out h e more ≡ of_present g e (rows ++ more))
-      → (more : List Row) → told_with is_out h' e more ≡ of_present g e ((rows ++ r ∷ []) ++ more)
-  one_more_told true h h' v next value k more = k (r ∷ more) ∙ one_moved more
-  one_more_told false h h' v next value k more =
+      → ((more : List Row) → of_present h e more ≡ of_present g e (rows ++ more))
+      → (more : List Row) → of_present h' e more ≡ of_present g e ((rows ++ r ∷ []) ++ more)
+  one_more_told h h' v next value k more =
       more_present e h h' (r ∷ more) 0 r r v (of_present g e ((rows ++ r ∷ []) ++ more)) (omega arith) refl value next
       (k (r ∷ more) ∙ one_moved more)
 
-  -- a row on which it is out of range
-  pub one_out : (is_out : Bool) (h : List Datum → Option Datum) → None ≡ eval [] r e
-      → ((more : List Row) → told_with is_out h e more ≡ of_present g e (rows ++ more))
-      → (more : List Row) → None ≡ of_present g e ((rows ++ r ∷ []) ++ more)
-  one_out true h value k more = k (r ∷ more) ∙ one_moved more
-  one_out false h value k more =
-      sym (one_lacks (λ q. eval [] q e) (λ vs. h (present vs)) (r ∷ more) 0 r r
-      (of_present g e ((rows ++ r ∷ []) ++ more)) (omega arith) refl (sym value) (k (r ∷ more) ∙ one_moved more))
+-- ---- aggregates that are out of range
+
+in_front : {A : Type 0} (o : Option A) (rest : Option (List A)) → rest ≡ None → with_front o rest ≡ None
+in_front None rest e = refl
+in_front (Some x) rest e = ap (with_front (Some x)) e
+
+-- an item without a value
+lacking : {X A : Type 0} (f : X → Option A) (xs ys : List X) (x : X) → None ≡ f x → map_all f (xs ++ x ∷ ys) ≡ None
+lacking f [] ys x e = ap (λ o. with_front o (map_all f ys)) (sym e)
+lacking f (y ∷ xs) ys x e = in_front (f y) (map_all f (xs ++ x ∷ ys)) (lacking f xs ys x e)
+
+if_none : {A : Type 0} (test : Bool) (o : Option A) → o ≡ None → (if test then o else None) ≡ None
+if_none true o e = e
+if_none false o e = refl
+
+-- a row on which the expression is out of range
+one_out : (f : bound.Function) (e : Expr) (rows more : List Row) (r row : Row) → None ≡ eval [] r e
+    → eval ((rows ++ r ∷ []) ++ more) row (bound.Aggregate f e) ≡ None
+one_out f e rows more r row none =
+    let all = (rows ++ r ∷ []) ++ more in
+    let lacks : map_all (λ q. eval [] q e) all ≡ None =
+    ap (map_all (λ q. eval [] q e)) (append_assoc rows (r ∷ []) more) ∙ lacking (λ q. eval [] q e) rows more r none in
+    if_none (fits (pos (length all))) (map_all (λ q. eval [] q e) all >>= λ vs. aggregate f (present vs))
+    (ap (λ o. o >>= λ vs. aggregate f (present vs)) lacks)
+
+-- more rows than 64 bits can count
+too_many : (t : Terms) (which : Aggregate) (rows : List Row) (row : Row) → 2 ^ 63 ≤ length rows
+    → eval rows row (tree_of t which) ≡ None
+too_many t Rows rows row many = simp (too_great (length rows) many)
+too_many t (Over f x) rows row many = simp (too_great (length rows) many)
 
 -- ---- one more row
 
@@ -57,31 +83,85 @@ one_longer n m rows r before next =
     let more : length (rows ++ r ∷ []) ≡ length rows + 1 = length-append rows (r ∷ []) in
     omega arith
 
+full : (out : Bool) (n : ℕ) → (out || nat_eq n (2 ^ 63 - 1)) ≡ true → out ≡ false → n ≡ 2 ^ 63 - 1
+full true n is within = cc
+full false n is within = eqb-true n (2 ^ 63 - 1) is
+
 module _ (t : Terms) (old new : Accumulator) (r : Row) where
+  -- an accumulator that is out of range, or has counted as many rows as it can, takes any row
+  pub stays_out : (which : Aggregate) → new.is_out ≡ true → (old.is_out || nat_eq old.rows (2 ^ 63 - 1)) ≡ true
+      → Takes t which old new r
+  stays_out which out is rows h = record {
+    out = λ _ more row. by_out old.is_out refl more row;
+    counted = λ held. cc;
+    folds = λ held. cc;
+  }
+    where
+      by_out : (b : Bool) → old.is_out ≡ b → IsOut t which (rows ++ r ∷ [])
+      by_out true e more row =
+          ap (λ rs. eval rs row (tree_of t which)) (append_assoc rows (r ∷ []) more) ∙ h.out e (r ∷ more) row
+      by_out false e more row =
+          let n : old.rows ≡ length rows = h.counted e in
+          let most : old.rows ≡ 2 ^ 63 - 1 = full old.is_out old.rows is e in
+          let longer : length ((rows ++ r ∷ []) ++ more) ≡ length (rows ++ r ∷ []) + length more =
+          length-append (rows ++ r ∷ []) more in
+          let one : length (rows ++ r ∷ []) ≡ length rows + 1 = length-append rows (r ∷ []) in
+          too_many t which ((rows ++ r ∷ []) ++ more) row (omega arith)
+
   module _ (f : code.Function) (x : ExprId) where
-    -- a row on which the operand has a value
-    pub took_value : (v : Datum) → new.rows ≡ old.rows + 1 → new.is_out ≡ old.is_out
+    -- a row on which the operand is out of range
+    took_out : new.is_out ≡ true → None ≡ eval [] r (expr t x) → Takes t (Over f x) old new r
+    took_out is none rows h = record {
+      out = λ _ more row. one_out (plain_function f) (expr t x) rows more r row none;
+      counted = λ held. cc;
+      folds = λ held. cc;
+    }
+
+    -- a row on which it has a value
+    took_value : (v : Datum) → new.rows ≡ old.rows + 1 → old.is_out ≡ false → new.is_out ≡ false
         → ((vs : List Datum) → rest_of (plain_function f) new (present vs)
         ≡ rest_of (plain_function f) old (present (v ∷ vs)))
         → Some v ≡ eval [] r (expr t x) → Takes t (Over f x) old new r
-    took_value v rows out next value before h = record {
-      counted = one_longer old.rows new.rows before r h.counted rows;
-      folds = λ more. ap (λ b. told_with b (rest_of (plain_function f) new) (expr t x) more) out
-          ∙ one_more_told (expr t x) before r (aggregate (plain_function f)) old.is_out
-          (rest_of (plain_function f) old) (rest_of (plain_function f) new) v next value h.folds more;
+    took_value v next was is gives value rows h = record {
+      out = λ gone. cc;
+      counted = λ _. one_longer old.rows new.rows rows r (h.counted was) next;
+      folds = λ _. one_more_told (expr t x) rows r (aggregate (plain_function f)) (rest_of (plain_function f) old)
+          (rest_of (plain_function f) new) v gives value (h.folds was);
     }
 
--- a row on which the operand has a value, where it was taken
-pub took_if : {U E : Type 0} (t : Terms) (old new : Accumulator) (r : Row) (f : code.Function) (x : ExprId)
-    (which : Aggregate) (v : Datum) (result : Result U E) → which ≡ Over f x
-    → IfOk result (λ _. new.rows ≡ old.rows + 1)
-    → new.is_out ≡ old.is_out
-    → IfOk result (λ _. (vs : List Datum) → rest_of (plain_function f) new (present vs)
-    ≡ rest_of (plain_function f) old (present (v ∷ vs)))
-    → Some v ≡ eval [] r (expr t x) → IfOk result (λ _. Takes t which old new r)
-took_if t old new r f x which v (Ok u) is rows out next value =
-    subst (λ w. Takes t w old new r) (sym is) (took_value t old new r f x v rows out next value)
-took_if t old new r f x which v (Err e) is rows out next value = tt
+left_out : (b c : Bool) → (b || c) ≡ false → b ≡ false
+left_out true c e = e
+left_out false c e = refl
+
+-- the result of a function depends on the values alone
+same_rest : (f : bound.Function) (a b : Accumulator) → a.values ≡ b.values → a.sum ≡ b.sum → a.best ≡ b.best
+    → (vs : List Datum) → rest_of f a vs ≡ rest_of f b vs
+same_rest bound.Count a b counts sums bests vs = ap {B = Option Datum} (λ n. Some (Int (pos (n + length vs)))) counts
+same_rest bound.Sum a b counts sums bests vs = ap (λ s. sum_behind s vs) sums
+same_rest bound.Min a b counts sums bests vs =
+    ap {B = Option Datum} (λ v. Some (best (is_better false) (after (datum_of_value v) vs))) bests
+same_rest bound.Max a b counts sums bests vs =
+    ap {B = Option Datum} (λ v. Some (best (is_better true) (after (datum_of_value v) vs))) bests
+
+module _ (t : Terms) (which : Aggregate) (old : Accumulator) (r : Row) where
+  module _ (f : code.Function) (x : ExprId) (is : which ≡ Over f x) where
+    -- the operand is out of range
+    pub leaves_range : (new : Accumulator) → new.is_out ≡ true → None ≡ eval [] r (expr t x) → Takes t which old new r
+    leaves_range new out none =
+        subst (λ w. Takes t w old new r) (sym is) (took_out t old new r f x out none)
+
+    -- the value of the operand is added to the accumulator, with which `now` agrees
+    pub adds_value : {U : Type 0} (now new : Accumulator) (v : Datum) (result : Result U Refusal) (b : Bool)
+        → (old.is_out || b) ≡ false → now.rows ≡ old.rows → now.values ≡ old.values → now.sum ≡ old.sum
+        → now.best ≡ old.best → now.is_out ≡ false → IfOk result (λ _. new.rows ≡ now.rows + 1)
+        → new.is_out ≡ now.is_out → IfOk result (λ _. (vs : List Datum) → rest_of (plain_function f) new (present vs)
+        ≡ rest_of (plain_function f) now (present (v ∷ vs))) → IfErr result (λ e. e ≡ OutOfMemory)
+        → Some v ≡ eval [] r (expr t x) → MatchResult result (λ _. Takes t which old new r) (λ e. e ≡ OutOfMemory)
+    adds_value now new v (Err e) b within rows values sums bests in_range next out folds memory value = memory
+    adds_value now new v (Ok u) b within rows values sums bests in_range next out folds memory value =
+        subst (λ w. Takes t w old new r) (sym is) (took_value t old new r f x v (next ∙ ap (λ n. n + 1) rows)
+        (left_out old.is_out b within) (out ∙ in_range)
+        (λ vs. folds vs ∙ same_rest (plain_function f) now old values sums bests (present (v ∷ vs))) value)
 
 -- ---- one more value
 
@@ -94,21 +174,29 @@ one_kept greatest b b' v is vs = ap {B = Option Datum} (λ d. Some d)
 
 -- ---- the results
 
-pub told_over : (t : Terms) (f : code.Function) (x : ExprId) (a : Accumulator) (rows : List Row) (row : Row)
-    → a.rows < 2 ^ 63 → HasFolded t (Over f x) a rows
-    → told_with a.is_out (rest_of (plain_function f) a) (expr t x) [] ≡ eval rows row (tree_of t (Over f x))
-told_over t f x a rows row few h =
-    over_few (plain_function f) (expr t x) rows row _ (let c : a.rows ≡ length rows = h.counted in omega arith)
-    (h.folds [] ∙ ap (of_present (aggregate (plain_function f)) (expr t x)) (append-nil rows))
+-- of an accumulator that is out of range
+pub told_out : (t : Terms) (which : Aggregate) (a : Accumulator) (rows : List Row) (row : Row) → a.is_out ≡ true
+    → HasFolded t which a rows → eval rows row (tree_of t which) ≡ None
+told_out t which a rows row out h =
+    ap (λ rs. eval rs row (tree_of t which)) (sym (append-nil rows)) ∙ h.out out [] row
+
+-- of a function
+told_over : (t : Terms) (f : code.Function) (x : ExprId) (a : Accumulator) (rows : List Row) (row : Row)
+    → a.rows < 2 ^ 63 → a.is_out ≡ false → HasFolded t (Over f x) a rows
+    → rest_of (plain_function f) a [] ≡ eval rows row (tree_of t (Over f x))
+told_over t f x a rows row few in_range h =
+    over_few (plain_function f) (expr t x) rows row _
+    (let c : a.rows ≡ length rows = h.counted in_range in omega arith)
+    (h.folds in_range [] ∙ ap (of_present (aggregate (plain_function f)) (expr t x)) (append-nil rows))
 
 pub told_by : (t : Terms) (f : code.Function) (x : ExprId) (which : Aggregate) (a : Accumulator) (rows : List Row)
-    (row : Row) (result : Result Value Refusal) → which ≡ Over f x → a.rows < 2 ^ 63
-    → ((e : Expr) → Evaluated datum_of_value (told_with a.is_out (rest_of (plain_function f) a) e []) result)
+    (row : Row) (result : Result Value Refusal) → which ≡ Over f x → a.rows < 2 ^ 63 → a.is_out ≡ false
+    → Evaluated datum_of_value (rest_of (plain_function f) a []) result
     → HasFolded t which a rows → Evaluated datum_of_value (eval rows row (tree_of t which)) result
-told_by t f x which a rows row result is few told h =
+told_by t f x which a rows row result is few in_range told h =
     subst (λ w. Evaluated datum_of_value (eval rows row (tree_of t w)) result) (sym is)
     (subst (λ o. Evaluated datum_of_value o result)
-    (told_over t f x a rows row few (subst (λ w. HasFolded t w a rows) is h)) (told (expr t x)))
+    (told_over t f x a rows row few in_range (subst (λ w. HasFolded t w a rows) is h)) told)
 
 -- ---- the row of all results
 

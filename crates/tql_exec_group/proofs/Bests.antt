@@ -1,6 +1,6 @@
 -- The least or greatest value, and the sum, computed from the left.
 use Rattle.std.specs.Prelude.{◌≡◌, refl, ℕ, Bool, true, false, List, [], ◌∷◌, if◌then◌else◌, ℤ, pos, ◌+ℤ◌, Option}
-use Rattle.std.specs.Prelude.{Some, None, ◌+◌, ◌^◌, ◌<◌, neg_ℤ, ◌≤ℤ◌, ◌<ℤ◌, length}
+use Rattle.std.specs.Prelude.{Some, None, ◌+◌, ◌^◌, ◌<◌, ◌≤◌, neg_ℤ, ◌≤ℤ◌, ◌<ℤ◌, length}
 use Rattle.std.proofs.Common.{sym, ap, ◌∙◌, arith}
 use Rattle.std.proofs.lemmas.Int.{ints}
 use Rattle.std.proofs.lemmas.Bool.Decides.{nat_tests}
@@ -101,6 +101,9 @@ next_within n s m r h low high e = record {
 
 fits_small : (n : ℕ) → n < 2 ^ 63 → fits (pos n) ≡ true
 fits_small n h = grind (arith, nat_tests)
+
+pub too_great : (n : ℕ) → 2 ^ 63 ≤ n → fits (pos n) ≡ false
+too_great n h = grind (arith, nat_tests)
 
 -- an aggregate over a number of rows that fits in 64 bits
 pub over_few : (f : Function) (e : Expr) (rows : List Row) (row : Row) (o : Option Datum) → length rows < 2 ^ 63

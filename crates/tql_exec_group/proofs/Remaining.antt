@@ -13,10 +13,6 @@ front_first : {A B : Type 0} (v : A) (rest : Option (List A)) (h : List A → Op
 front_first v None h = refl
 front_first v (Some vs) h = refl
 
-none_first : {A B : Type 0} (rest : Option (List A)) (h : List A → Option B) → with_front None rest >>= h ≡ None
-none_first None h = refl
-none_first (Some vs) h = refl
-
 by_each : {A B : Type 0} (o : Option A) (h k : A → Option B) → ((x : A) → h x ≡ k x) → o >>= h ≡ o >>= k
 by_each None h k e = refl
 by_each (Some x) h k e = e x
@@ -38,15 +34,6 @@ module _ {X A B : Type 0} (f : X → Option A) where
       let rest = map_all f (drop (i + 1) xs) in
       by_each rest h' (λ vs. h (v ∷ vs)) next ∙ sym (front_first v rest h) ∙ (λ j. with_front (sym value j) rest >>= h)
       ∙ sym (ap (λ o. o >>= h) (left_at f xs i d x l is)) ∙ so_far
-
-  -- an item that has no value
-  pub one_lacks : (h : List A → Option B) (xs : List X) (i : ℕ) (d x : X) (all : Option B) → i < length xs
-      → x ≡ slice_index_or xs i d
-      → f x ≡ None → map_all f (drop i xs) >>= h ≡ all → all ≡ None
-  one_lacks h xs i d x all l is none so_far =
-      let rest = map_all f (drop (i + 1) xs) in
-      sym so_far ∙ ap (λ o. o >>= h) (left_at f xs i d x l is) ∙ (λ j. with_front (none j) rest >>= h)
-      ∙ none_first rest h
 
 -- ---- the values of an expression on rows
 

@@ -1,12 +1,10 @@
 //! Accumulators: an aggregate over rows that are taken one at a time, none of which is kept.
-ghost use Rattle.std.specs.Prelude.{◌≡◌, ◌+◌, ◌<◌, ◌≤◌, ◌^◌, ◌∷◌, [], IfOk, List, if◌then◌else◌};
+ghost use Rattle.std.specs.Prelude.{◌≡◌, ◌+◌, ◌<◌, ◌≤◌, ◌^◌, MatchResult, if◌then◌else◌};
 ghost use Rattle.tql_spec.specs.Datum as pure;
-ghost use Rattle.tql_spec.specs.Expression as bound;
 ghost use Rattle.tql_value.specs.Views.{datum_of_value, datum_of_view};
 ghost use Rattle.tql_exec_group.specs.Folds.{IsWithin, the_better};
 
 use crate::aggregates::{is_beaten, summed, with_value};
-use std::alloc::AllocError;
 use tql_exec_join::tuple::Tuple;
 use tql_expr::node::Function;
 use tql_expr::terms::{Aggregate, Terms};
@@ -15,13 +13,14 @@ use tql_value::arithmetic::Range;
 use tql_value::refusal::Refusal;
 use tql_value::value::{Value, View};
 
-/// The greatest number of rows that are taken: 64 bits, signed, can count them, and 128 bits can sum a value of each.
+/// The greatest number of rows over which an aggregate has a value: 64 bits, signed, can count them, and 128 bits can
+/// sum a value of each.
 const MOST: u64 = 0x7fff_ffff_ffff_ffff;
 
 /// An aggregate over the rows so far. The value of each function stands in a field of its own: the count in `values`,
 /// the sum in `sum`, and the least or greatest value in `best`.
 pub struct Accumulator {
-    /// The number of rows.
+    /// The number of rows, as long as the result is not out of range.
     rows: u64,
     /// The number of rows on which the operand was not NULL.
     values: u64,
@@ -29,7 +28,8 @@ pub struct Accumulator {
     sum: Option<i128>,
     /// The least or the greatest value; NULL as long as all values were NULL.
     best: Value,
-    /// Whether the operand was out of range on some row.
+    /// Whether the result is out of range, whichever rows follow: the operand was out of range on some row, or there
+    /// were more rows than 64 bits can count.
     is_out: bool,
     ghost few: { rows < 2 ^ 63 },
     ghost counted: { values ≤ rows },
@@ -49,16 +49,6 @@ impl Drop for Accumulator {
     }
 }
 
-/// Copies a value into memory of its own. The only error is a refused allocation.
-fn copy_of(memory: Memory, value: View<'_>) -> Result<Value, AllocError>
-    ensures { IfOk result (λ v. datum_of_value v ≡ datum_of_view value.entry) }
-{
-    match value.to_value(memory) {
-        Ok(value) => Ok(value),
-        Err(_) => Err(AllocError),
-    }
-}
-
 /// Returns a count with one more value. NULL is not counted.
 fn with_count(values: u64, value: View<'_>) -> u64
     requires { values < 2 ^ 63 }
@@ -67,26 +57,28 @@ fn with_count(values: u64, value: View<'_>) -> u64
     if value.is_null() { values } else { values + 1 }
 }
 
-/// Replaces the best value so far by one that is better. A value that is not is not copied. The only error is a refused
+/// Replaces the best value so far by one that is better. Any other value is not copied. The only error is a refused
 /// allocation.
 fn keep_better(
     memory: Memory,
     greatest: bool,
     best: &mut Value,
     value: View<'_>,
-) -> Result<(), AllocError>
-    ensures { IfOk result (λ _. datum_of_value best.new
-        ≡ the_better greatest (datum_of_value best.old) (datum_of_view value.entry)) }
+) -> Result<(), Refusal>
+    ensures { MatchResult result
+        (λ _. datum_of_value best.new
+        ≡ the_better greatest (datum_of_value best.old) (datum_of_view value.entry))
+        (λ e. e ≡ Refusal.OutOfMemory) }
 {
     if !is_beaten(greatest, best.view(), value) {
         return Ok(());
     }
-    *best = copy_of(memory, value)?;
+    *best = value.to_value(memory)?;
     Ok(())
 }
 
 impl Accumulator {
-    ghost use Rattle.std.specs.Prelude.{◌≡◌, ◌+◌, ◌<◌, ◌∷◌, [], IfOk, List};
+    ghost use Rattle.std.specs.Prelude.{◌≡◌, ◌+◌, ◌<◌, ◌^◌, ◌∷◌, [], IfErr, IfOk, List, MatchResult};
     ghost use Rattle.tql_spec.specs.Datum as pure;
     ghost use Rattle.tql_spec.specs.Expression as bound;
     ghost use Rattle.tql_value.specs.Views.{datum_of_value, datum_of_view, outcome};
@@ -96,7 +88,7 @@ impl Accumulator {
     ghost use Rattle.tql_expr.specs.declared.terms.Aggregate.{Aggregate};
     ghost use Rattle.tql_expr.specs.declared.terms.Terms.{Terms};
     ghost use Rattle.tql_exec_join.specs.Tuples.{tuple_row};
-    ghost use Rattle.tql_exec_group.specs.Folded.{rest_of, told_with, HasFolded, Takes};
+    ghost use Rattle.tql_exec_group.specs.Folded.{rest_of, HasFolded, Takes};
 
     /// Returns the accumulator of no rows.
     pub(crate) fn new() -> Accumulator
@@ -112,13 +104,14 @@ impl Accumulator {
     }
 
     /// Takes the value of the operand on one more row. The only error is a refused allocation.
-    fn add(&mut self, memory: Memory, function: Function, value: View<'_>) -> Result<(), AllocError>
+    fn add(&mut self, memory: Memory, function: Function, value: View<'_>) -> Result<(), Refusal>
         requires { self.old.rows + 1 < 2 ^ 63 }
         ensures rows { IfOk result (λ _. self.new.rows ≡ self.old.rows + 1) }
         ensures out { self.new.is_out ≡ self.old.is_out }
         ensures folds { IfOk result (λ _. (vs : List pure.Datum)
             → rest_of (plain_function function) self.new (bound.present vs)
             ≡ rest_of (plain_function function) self.old (bound.present (datum_of_view value.entry ∷ vs))) }
+        ensures memory { IfErr result (λ e. e ≡ Refusal.OutOfMemory) }
     {
         self.rows += 1;
         match function {
@@ -130,20 +123,22 @@ impl Accumulator {
         Ok(())
     }
 
-    /// Takes one more row. The operand is evaluated once. That it is out of range is remembered. The only error is a
-    /// refused allocation, which is also reported for more rows than 64 bits can count.
+    /// Takes one more row. The operand is evaluated once. Remembers that it is out of range, or that there are more
+    /// rows than 64 bits can count. The only error is a refused allocation.
     pub(crate) fn take(
         &mut self,
         memory: Memory,
         terms: &Terms,
         which: Aggregate,
         row: &Tuple<'_>,
-    ) -> Result<(), AllocError>
+    ) -> Result<(), Refusal>
         requires { HasOperand terms.now which }
-        ensures { IfOk result (λ _. Takes terms.now which self.old self.new (tuple_row row.now)) }
+        ensures { MatchResult result
+            (λ _. Takes terms.now which self.old self.new (tuple_row row.now)) (λ e. e ≡ Refusal.OutOfMemory) }
     {
-        if self.rows == MOST {
-            return Err(AllocError);
+        self.is_out |= self.rows == MOST;
+        if self.is_out {
+            return Ok(());
         }
         let Aggregate::Over(function, x) = which else {
             self.rows += 1;
@@ -152,7 +147,6 @@ impl Accumulator {
         match terms.eval(x, row) {
             Ok(value) => self.add(memory, function, value),
             Err(_) => {
-                self.rows += 1;
                 self.is_out = true;
                 Ok(())
             }
@@ -170,24 +164,23 @@ impl Accumulator {
         }
     }
 
-    /// Returns the result of a function over the values so far. Refused if the sum or the operand was out of range, or
-    /// if out of memory.
+    /// Returns the result of a function over the values so far. Refused if a sum overflows 64 bits, or if out of
+    /// memory.
     fn told_over(&self, memory: Memory, function: Function) -> Result<Value, Refusal>
-        ensures { (e : bound.Expr) → Evaluated datum_of_value
-            (told_with self.now.is_out (rest_of (plain_function function) self.now) e []) result }
+        ensures { Evaluated datum_of_value (rest_of (plain_function function) self.now []) result }
     {
-        if self.is_out {
-            return Err(Refusal::ValueOutOfRange);
-        }
         self.result(function)?.to_value(memory)
     }
 
     /// Returns the result of the aggregate over the rows so far. Refused if the result is out of range, or the operand
-    /// was on some row, or if out of memory.
+    /// was on some row, or if out of memory. The result over 2^63 rows or more is out of range.
     pub(crate) fn told(&self, memory: Memory, which: Aggregate) -> Result<Value, Refusal>
         ensures { (t : Terms) (rows : List pure.Row) (row : pure.Row) → HasFolded t which self.now rows
             → Evaluated datum_of_value (bound.eval rows row (tree_of t which)) result }
     {
+        if self.is_out {
+            return Err(Refusal::ValueOutOfRange);
+        }
         match which {
             Aggregate::Rows => Ok(Value::Int(self.rows as i64)),
             Aggregate::Over(function, _) => self.told_over(memory, function),

@@ -1,6 +1,6 @@
 //! Aggregates over all rows of a query, as a sink: `SELECT COUNT(*), SUM(x) FROM t, u WHERE ..`. Each row is folded
 //! into the accumulators when it is handed over, so no list of the rows is kept.
-ghost use Rattle.std.specs.Prelude.{◌≡◌, ◌++◌, ◌∷◌, [], All, IfOk, IfSome, is_some, List, map, option_map};
+ghost use Rattle.std.specs.Prelude.{◌≡◌, ◌++◌, ◌∷◌, [], All, IfOk, IfSome, is_some, List, map, MatchResult, option_map};
 ghost use Rattle.std.specs.List.{list_all};
 ghost use Rattle.tql_spec.specs.Datum.{Row};
 ghost use Rattle.tql_spec.specs.Expression as bound;
@@ -62,10 +62,12 @@ fn take_each(
     aggregates: &[Aggregate],
     folds: &mut [Accumulator],
     row: &Tuple<'_>,
-) -> Result<(), AllocError>
+) -> Result<(), Refusal>
     requires { All (HasOperand terms.now) aggregates.now }
-    ensures { IfOk result (λ _. (rows : List Row) → HaveFolded terms.now aggregates.now folds.old rows
-        → HaveFolded terms.now aggregates.now folds.new (rows ++ tuple_row row.now ∷ [])) }
+    ensures { MatchResult result
+        (λ _. (rows : List Row) → HaveFolded terms.now aggregates.now folds.old rows
+        → HaveFolded terms.now aggregates.now folds.new (rows ++ tuple_row row.now ∷ []))
+        (λ e. e ≡ Refusal.OutOfMemory) }
 {
     for (place, fold) in folds.iter_mut().enumerate() {
         let Some(which) = aggregates.get(place) else {
@@ -99,11 +101,14 @@ fn values_of(
 impl Sink for Folding<'_> {
     type State = Folded;
 
+    ghost use Rattle.std.specs.Prelude.{[], Some};
     ghost use Rattle.tql_exec_group.specs.Folded.{HaveFolded};
 
     ghost knows = { λ f s rows. HaveFolded f.terms.now f.aggregates.items s.folds.items rows };
 
-    fn take(&self, state: &mut Folded, row: &Tuple<'_>) -> Result<(), AllocError> {
+    ghost gives = { λ f row. Some [] };
+
+    fn take(&self, state: &mut Folded, row: &Tuple<'_>) -> Result<(), Refusal> {
         take_each(
             self.memory,
             self.terms,
@@ -125,11 +130,11 @@ impl Folding<'_> {
     ghost use Rattle.tql_exec_group.specs.Folded.{HaveFolded};
 
     /// Returns the state before the first row. The only error is a refused allocation.
-    pub fn begin(&self, memory: Memory) -> Result<Folded, AllocError>
+    pub fn begin(&self) -> Result<Folded, AllocError>
         ensures { IfOk result
             (λ s. HaveFolded self.now.terms.now self.now.aggregates.items s.folds.items []) }
     {
-        let mut folds = Vec::with_capacity(memory, self.aggregates.len())?;
+        let mut folds = Vec::with_capacity(self.memory, self.aggregates.len())?;
         for _which in self.aggregates.iter() {
             folds.push(Accumulator::new())?;
         }
@@ -138,18 +143,14 @@ impl Folding<'_> {
 
     /// Returns the one row of the result: the values of the aggregates over the rows so far. Refused if one is out of
     /// range, or if out of memory.
-    pub fn told(
-        &self,
-        memory: Memory,
-        state: &Folded,
-    ) -> Result<Vec<Vec<Value, Memory>, Memory>, Refusal>
+    pub fn told(&self, state: &Folded) -> Result<Vec<Vec<Value, Memory>, Memory>, Refusal>
         ensures { (rows : List Row)
             → HaveFolded self.now.terms.now self.now.aggregates.items state.now.folds.items rows
             → Evaluated (λ v. rows_of v.items) (shown []
             (map (tree_of self.now.terms.now) self.now.aggregates.items) (of_group rows ∷ [])) result }
     {
-        let mut made: Vec<Vec<Value, Memory>, Memory> = Vec::with_capacity(memory, 1)?;
-        made.push(values_of(memory, &self.aggregates, &state.folds)?)?;
+        let mut made: Vec<Vec<Value, Memory>, Memory> = Vec::with_capacity(self.memory, 1)?;
+        made.push(values_of(self.memory, &self.aggregates, &state.folds)?)?;
         Ok(made)
     }
 }

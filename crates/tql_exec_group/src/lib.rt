@@ -5,5 +5,6 @@ mod aggregates;
 pub mod fold;
 pub mod folding;
 mod group;
+pub mod listing;
 mod runs;
 pub mod showing;

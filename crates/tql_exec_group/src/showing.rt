@@ -22,8 +22,9 @@ use tql_memory::Memory;
 use tql_value::refusal::Refusal;
 use tql_value::value::Value;
 
-/// Adds the values of the items on a row or a group if it passes the conjuncts.
-fn add_scope<C: Columns>(
+/// Adds the values of the items on a row or a group if it passes the conjuncts. Refused if an evaluation that is
+/// reached overflows 64 bits, or if an allocation is refused.
+pub(crate) fn add_scope<C: Columns>(
     memory: Memory,
     terms: &Terms,
     having: &[CondId],

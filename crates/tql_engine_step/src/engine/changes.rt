@@ -91,7 +91,8 @@ impl<I: IntervalIndex> Engine<I> {
         }
     }
 
-    /// Returns the change that adds the rows of a query. The query is answered first, so it does not see them.
+    /// Returns the change that adds the rows of a query. The query is answered first, so it does not see them. Its rows
+    /// are not sorted, since an INSERT does the same in any order.
     fn query_delta(&self, insertion: &QueryInsertion) -> Result<Delta, Refusal>
         requires within { insertion.now.table < length (definitions_of self.now.tables) }
         requires placed { IsPlacedQuery (definitions_of self.now.tables) (bound_query_of insertion.now.query) }
@@ -99,7 +100,7 @@ impl<I: IntervalIndex> Engine<I> {
         ensures { (s : State) (p : Table) → StandsFor self.now s
             → slice_get self.now.tables insertion.now.table ≡ Some p → Adds s p insertion.now result }
     {
-        let rows = match self.answer_rows(&insertion.query) {
+        let rows = match self.unordered_rows(&insertion.query) {
             Ok(rows) => rows,
             Err(refusal) => return Err(refusal),
         };

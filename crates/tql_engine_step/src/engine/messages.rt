@@ -16,6 +16,7 @@ use tql_detail::detail::Detail;
 use tql_dml::failures::{
     first_failed_value, first_failure, inserted_rows, modified_rows, tuple_rows,
 };
+use tql_exec_sort::sorting::arrange;
 use tql_index::index::IntervalIndex;
 use tql_key_failures::failures::{RowRef, failed_key, failed_reference};
 use tql_memory::Memory;
@@ -212,15 +213,16 @@ impl<I: IntervalIndex> Engine<I> {
         query_detail(self.memory, &self.tables, query)
     }
 
-    /// Returns the detail of an INSERT from a query.
+    /// Returns the detail of an INSERT from a query. It numbers the rows in the order in which the query prints them.
     fn query_fault(&self, insertion: &QueryInsertion, refusal: Refusal) -> Option<Detail>
         requires within { insertion.now.table < length self.now.tables }
         requires placed { IsPlacedQuery (definitions_of self.now.tables) (bound_query_of insertion.now.query) }
         requires asked { AsksWithin self.now (bound_query_of insertion.now.query) }
     {
         let table = self.table_at(insertion.table);
-        match self.answer_rows(&insertion.query) {
-            Ok(values) => {
+        match self.unordered_rows(&insertion.query) {
+            Ok(mut values) => {
+                arrange(self.memory, &mut values, false, &insertion.query.ordering).ok()?;
                 let rows = inserted_rows(self.memory, table, &insertion.columns, values).ok()?;
                 self.added_fault(insertion.table, rows, refusal)
             }

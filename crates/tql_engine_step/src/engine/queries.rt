@@ -1,7 +1,7 @@
 //! SELECT, and the rows that a query answers.
 use crate::engine::Engine;
 use tql_bound::query::BoundQuery;
-use tql_exec::running::{answer_rows, run};
+use tql_exec::running::{run, unordered_rows};
 use tql_index::index::IntervalIndex;
 use tql_memory::Memory;
 use tql_plan::planner::plan;
@@ -18,7 +18,8 @@ impl<I: IntervalIndex> Engine<I> {
     ghost use Rattle.tql_bound.specs.Placed.{IsPlacedQuery};
     ghost use Rattle.tql_bound.specs.Queries.{bound_query_of};
     ghost use Rattle.tql_catalog.specs.Tables.{definitions_of};
-    ghost use Rattle.tql_exec.specs.Found.{ordered};
+    ghost use Rattle.tql_exec.specs.Steps.{ordered};
+    ghost use Rattle.tql_exec_join.specs.Bags.{GivesBag};
     ghost use Rattle.tql_expr.specs.Evaluated.{Evaluated};
     ghost use Rattle.tql_value.specs.Views.{rows_of};
     ghost use Rattle.tql_engine_state.specs.Allowed.{AsksWithin};
@@ -26,23 +27,24 @@ impl<I: IntervalIndex> Engine<I> {
     ghost use Rattle.tql_engine_state.specs.Stands.{StandsFor};
     ghost use Rattle.tql_engine_state.specs.Effects.{DoesStep};
 
-    /// Returns the rows that a query answers, in the order in which they are printed. Refused if an evaluation that is
-    /// reached overflows 64 bits, or if an allocation is refused.
-    pub(super) fn answer_rows(
+    /// Returns the rows that a query answers, in any order. Refused if an evaluation that is reached overflows 64 bits,
+    /// or if an allocation is refused.
+    pub(super) fn unordered_rows(
         &self,
         query: &BoundQuery,
     ) -> Result<Vec<Vec<Value, Memory>, Memory>, Refusal>
         requires placed { IsPlacedQuery (definitions_of self.now.tables) (bound_query_of query.now) }
         requires within { AsksWithin self.now (bound_query_of query.now) }
-        ensures { (s : State) → StandsFor self.now s → Evaluated (λ rows. rows_of rows.items)
-            (ordered (bound_query_of query.now).ordering (answer (bag_of s) (bound_query_of query.now))) result }
+        ensures { (s : State) → StandsFor self.now s
+            → GivesBag (λ rows. rows_of rows.items) (answer (bag_of s) (bound_query_of query.now)) result }
     {
         let plan = plan(self.memory, &self.tables, query)?;
         let shown = Snapshot::now(&self.store);
-        answer_rows(self.memory, &shown, &plan)
+        unordered_rows(self.memory, &shown, &plan)
     }
 
-    /// Returns the rows that a query answers from a snapshot of the store, in the same order, with their headings.
+    /// Returns the rows that a query answers from a snapshot of the store, in the order in which they are printed, with
+    /// their headings.
     pub(super) fn answered(
         &self,
         shown: &Snapshot<'_, I>,

@@ -1,7 +1,6 @@
 use Rattle.std.proofs.Common.{◌∙◌, sym, subst, List, [], Some}
 use Rattle.tql_spec.specs.Datum.{Row}
 use Rattle.tql_spec.specs.Machine.{State}
-use Rattle.tql_bound.specs.Queries.{bound_query_of}
 use Rattle.tql_bound.specs.declared.change.QueryInsertion.{QueryInsertion}
 use Rattle.tql_catalog.specs.declared.catalog.Table.{Table}
 use Rattle.tql_dml.specs.Alters.{Alters, added_rows}
@@ -22,7 +21,7 @@ insert_rows-requires g c =
     let s : State = c.self.invariant.state in
     let x = c.args.insertion.now.query in
     let stands = subst (λ h. StandsFor h s) c.self.view_is c.self.invariant.stands in
-    rows_print (bound_query_of x).ordering _ (rows_of c.in-Ok.rows.items)
+    rows_print _ (rows_of c.in-Ok.rows.items)
     (answer_prints c.args.self.now.tables s x (fits_now c.args.self.now s stands) c.requires.placed)
     (c.in-Ok.ensures s stands)
 

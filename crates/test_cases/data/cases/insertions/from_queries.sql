@@ -1,0 +1,29 @@
+-- cases: in-turn
+-- INSERT from a query: the order of its rows does not matter. By hand.
+CREATE TABLE s (x INTEGER, t VARCHAR(9));
+CREATE TABLE r (k INTEGER, t VARCHAR(5), PRIMARY KEY (k));
+CREATE TABLE plain (k INTEGER, t VARCHAR(9));
+INSERT INTO s VALUES (3, 'c'), (1, 'a'), (2, 'b'), (1, 'a');
+INSERT INTO plain SELECT x, t FROM s;
+SELECT k, t FROM plain;
+INSERT INTO plain SELECT DISTINCT x, t FROM s;
+SELECT COUNT(*) FROM plain;
+INSERT INTO r SELECT x, t FROM s;
+SELECT COUNT(*) FROM r;
+INSERT INTO r SELECT DISTINCT x, t FROM s;
+SELECT k, t FROM r;
+INSERT INTO r SELECT x + 3, t FROM s WHERE x > 1;
+SELECT k, t FROM r;
+INSERT INTO r SELECT x + 9223372036854775805, t FROM s;
+INSERT INTO r SELECT SUM(x) + 90, MAX(t) FROM s GROUP BY x HAVING SUM(x) > 90;
+INSERT INTO r SELECT SUM(x) + 90, MAX(t) FROM s GROUP BY x;
+INSERT INTO r SELECT SUM(x) + 90, MAX(t) FROM s GROUP BY x HAVING COUNT(*) = 1;
+INSERT INTO r SELECT COUNT(*) + 6, MIN(t) FROM s;
+SELECT k, t FROM r;
+INSERT INTO r SELECT k + 10, t FROM r WHERE k < 90;
+SELECT COUNT(*) FROM r;
+INSERT INTO s SELECT x, 'toolong' FROM s;
+INSERT INTO r SELECT x + 100, t FROM s WHERE x = 2;
+INSERT INTO r SELECT a.x, b.t FROM s a LEFT JOIN s b ON a.x = b.x + 9 WHERE a.x = 3;
+INSERT INTO plain SELECT a.x, b.t FROM s a LEFT JOIN s b ON a.x = b.x + 1;
+SELECT k, t FROM plain ORDER BY K DESC;

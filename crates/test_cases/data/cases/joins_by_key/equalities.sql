@@ -1,0 +1,35 @@
+-- cases: in-turn
+-- Joins on equalities of each kind, of several columns and with NULLs: printed, counted, grouped and behind WHERE. The rows are from sqlite3, E30 by hand.
+CREATE TABLE a (n INTEGER, t VARCHAR(9), d DATE, m TIMESTAMP, w INTEGER);
+CREATE TABLE b (n INTEGER, t VARCHAR(9), d DATE, m TIMESTAMP, w INTEGER);
+INSERT INTO a VALUES (1, 'x', DATE '2024-01-01', TIMESTAMP '2024-01-01 00:00:00', 10), (1, 'y', DATE '2024-01-02', TIMESTAMP '2024-01-01 00:00:01', 20), (2, 'x', NULL, NULL, 30), (NULL, 'x', DATE '2024-01-01', NULL, 40), (3, NULL, DATE '2024-01-03', TIMESTAMP '2024-01-01 00:00:03', 50), (-1, '', DATE '1969-12-31', TIMESTAMP '1969-12-31 23:59:59', 60);
+INSERT INTO b VALUES (1, 'x', DATE '2024-01-01', TIMESTAMP '2024-01-01 00:00:00', 100), (1, 'x', DATE '2024-01-02', TIMESTAMP '2024-01-01 00:00:01', 200), (2, 'y', NULL, NULL, 300), (NULL, 'x', DATE '2024-01-01', NULL, 400), (-1, '', DATE '1969-12-31', TIMESTAMP '1969-12-31 23:59:59', 500), (-1, '', DATE '1969-12-31', TIMESTAMP '1969-12-31 23:59:59', 600);
+SELECT a.w, b.w FROM a JOIN b ON a.n = b.n;
+SELECT a.w, b.w FROM a JOIN b ON a.t = b.t;
+SELECT a.w, b.w FROM a JOIN b ON a.d = b.d;
+SELECT a.w, b.w FROM a JOIN b ON a.m = b.m;
+SELECT a.w, b.w FROM a JOIN b ON a.n = b.n AND a.t = b.t;
+SELECT a.w, b.w FROM a JOIN b ON b.t = a.t AND a.n = b.n AND b.d = a.d;
+SELECT a.w, b.w FROM a JOIN b ON a.n = b.n AND a.n = b.n;
+SELECT a.w, b.w FROM a LEFT JOIN b ON a.n = b.n AND a.t = b.t;
+SELECT a.w, b.w FROM a LEFT JOIN b ON a.n = b.n AND a.t = b.t WHERE b.w IS NULL;
+SELECT a.w, b.w FROM a LEFT JOIN b ON a.n = b.n AND b.w > 150 WHERE a.w < 60;
+SELECT COUNT(*), COUNT(b.w), SUM(b.w), MIN(b.w), MAX(a.t) FROM a LEFT JOIN b ON a.n = b.n AND a.t = b.t;
+SELECT COUNT(*), SUM(a.w) FROM a LEFT JOIN b ON a.n = b.n WHERE b.w IS NULL OR b.w < 300;
+SELECT a.w, b.w FROM a CROSS JOIN b WHERE a.n = b.n AND a.t = b.t;
+SELECT a.w, b.w FROM a, b WHERE a.n = b.n AND a.t = b.t AND a.w + b.w > 115;
+SELECT COUNT(*) FROM a CROSS JOIN b;
+SELECT COUNT(*) FROM a LEFT JOIN b ON 1 = 0;
+SELECT a.w, c.w, b.w FROM a JOIN b ON a.n = b.n LEFT JOIN a c ON c.t = b.t AND c.d = b.d WHERE a.w < 30;
+SELECT COUNT(*), SUM(c.w) FROM a JOIN b ON a.n = b.n LEFT JOIN a c ON c.t = b.t AND c.d = b.d;
+SELECT DISTINCT a.n FROM a JOIN b ON a.n = b.n;
+SELECT a.n, COUNT(*) FROM a JOIN b ON a.n = b.n GROUP BY a.n;
+SELECT a.n, COUNT(b.w) FROM a LEFT JOIN b ON a.n = b.n AND a.t = b.t GROUP BY a.n HAVING COUNT(*) > 1;
+SELECT a.w FROM a JOIN b ON a.n = b.n WHERE a.w + 9223372036854775807 > 0;
+SELECT a.w + 9223372036854775767 FROM a WHERE a.w > 30;
+SELECT a.w + 9223372036854775767 FROM a WHERE a.w < 40;
+SELECT a.w + 9223372036854775767, b.w FROM a LEFT JOIN b ON a.n = b.n WHERE b.w IS NULL;
+SELECT a.w + 9223372036854775767 FROM a JOIN b ON a.n = b.n WHERE a.w = 50;
+SELECT COUNT(*) FROM a LEFT JOIN b ON a.n = b.n AND a.w + 9223372036854775757 > 0;
+SELECT COUNT(*) FROM a LEFT JOIN b ON a.n = b.n WHERE b.w + 9223372036854775207 > 0;
+SELECT SUM(a.w + 9223372036854775767) FROM a JOIN b ON a.n = b.n;

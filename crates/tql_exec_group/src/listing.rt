@@ -1,0 +1,109 @@
+//! The rows of a query without groups, as a sink: `SELECT x + 1, y FROM t, u WHERE ..`. The values of the items are
+//! calculated on each row when it is handed over, so no list of the joined rows is kept.
+ghost use Rattle.std.specs.Prelude.{All};
+ghost use Rattle.tql_expr.specs.Meaning.{HasCond, HasExpr};
+
+use crate::showing::add_scope;
+use tql_exec_join::sink::Sink;
+use tql_exec_join::tuple::Tuple;
+use tql_expr::terms::{CondId, ExprId, Terms};
+use tql_memory::Memory;
+use tql_value::refusal::Refusal;
+use tql_value::value::Value;
+
+/// The items of a query without groups, and the conjuncts of HAVING.
+#[derive(Clone, Copy)]
+pub struct Listing<'q> {
+    memory: Memory,
+    terms: &'q Terms,
+    having: &'q [CondId],
+    items: &'q [ExprId],
+    ghost judged: { All (HasCond terms.now) having.now },
+    ghost held: { All (HasExpr terms.now) items.now },
+}
+
+/// The values of the items on the rows so far that pass the conjuncts, in the order of the rows.
+pub struct Listed {
+    made: Vec<Vec<Value, Memory>, Memory>,
+}
+
+impl Drop for Listed {
+    fn drop(self) {
+        let Listed { made } = self;
+        drop(made);
+    }
+}
+
+impl Listed {
+    ghost use Rattle.std.specs.Prelude.{◌≡◌};
+
+    /// Returns the rows of the result.
+    pub fn rows(self) -> Vec<Vec<Value, Memory>, Memory>
+        ensures { result.items ≡ self.made.items }
+    {
+        let Listed { made } = self;
+        made
+    }
+}
+
+impl Sink for Listing<'_> {
+    type State = Listed;
+
+    ghost use Rattle.std.specs.Prelude.{◌≡◌, ◌∷◌, [], map, Some};
+    ghost use Rattle.tql_spec.specs.Query.{alone};
+    ghost use Rattle.tql_spec.specs.QueryLaws.{shown};
+    ghost use Rattle.tql_value.specs.Views.{rows_of};
+    ghost use Rattle.tql_expr.specs.Meaning.{cond, expr};
+
+    ghost knows = { λ l s rows. shown (map (cond l.terms.now) l.having.now) (map (expr l.terms.now) l.items.now)
+        (map alone rows) ≡ Some (rows_of s.made.items) };
+
+    ghost gives = { λ l row. shown (map (cond l.terms.now) l.having.now) (map (expr l.terms.now) l.items.now)
+        (alone row ∷ []) };
+
+    fn take(&self, state: &mut Listed, row: &Tuple<'_>) -> Result<(), Refusal> {
+        add_scope(
+            self.memory,
+            self.terms,
+            self.having,
+            self.items,
+            row,
+            &mut state.made,
+        )
+    }
+}
+
+impl<'q> Listing<'q> {
+    ghost use Rattle.std.specs.Prelude.{◌≡◌, [], All};
+    ghost use Rattle.tql_expr.specs.Meaning.{HasCond, HasExpr};
+
+    /// Returns the sink of a query without groups.
+    pub fn new(
+        memory: Memory,
+        terms: &'q Terms,
+        having: &'q [CondId],
+        items: &'q [ExprId],
+    ) -> Listing<'q>
+        requires having { All (HasCond terms.now) having.now }
+        requires items { All (HasExpr terms.now) items.now }
+        ensures terms { result.terms.now ≡ terms.now }
+        ensures having { result.having.now ≡ having.now }
+        ensures items { result.items.now ≡ items.now }
+    {
+        Listing {
+            memory,
+            terms,
+            having,
+            items,
+        }
+    }
+
+    /// Returns the state before the first row. Makes no allocation.
+    pub fn begin(&self) -> Listed
+        ensures { result.made.items ≡ [] }
+    {
+        Listed {
+            made: Vec::new(self.memory),
+        }
+    }
+}

@@ -1,0 +1,4 @@
+pub mod ByColumns
+pub mod Looked
+pub mod Open
+pub mod Regiven

@@ -1,0 +1,6 @@
+//! Reads the rows of a table through a snapshot of the store: all rows of a scan, those that pass conjuncts, and those
+//! that a key or a period finds.
+#![tactic(auto)]
+
+pub mod finding;
+pub mod reading;
