@@ -1,4 +1,5 @@
 pub mod ByColumns
 pub mod Looked
+pub mod OneOf
 pub mod Open
 pub mod Regiven

@@ -2,5 +2,6 @@
 //! that a key or a period finds.
 #![tactic(auto)]
 
+pub mod alternatives;
 pub mod finding;
 pub mod reading;

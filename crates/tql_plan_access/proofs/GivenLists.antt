@@ -38,7 +38,7 @@ all_listed p columns (x ∷ xs) h =
     and_from (p (columns x)) (list_all p (map columns xs)) parts.0 (all_listed p columns xs parts.1)
 
 -- the lists for lookups in a table name columns of the table, none of them generated
-all_assignable : (d : TableDef) → IsDefinition d → list_all (are_assignable d) (sought_columns d) ≡ true
+pub all_assignable : (d : TableDef) → IsDefinition d → list_all (are_assignable d) (sought_columns d) ≡ true
 all_assignable d right =
     all_before (are_assignable d) (λ (k : Key). k.columns) d.keys (reference_columns d) right.keys
     (all_listed (are_assignable d) (λ (f : Reference). f.columns) d.references right.references)
@@ -76,7 +76,7 @@ module _ (test : List ℕ → Bool) where
       either false h = h
 
   -- the first list passes the test, and any other test that all lists pass
-  first_is : (p : List ℕ → Bool) (xs : List (List ℕ)) (columns : List ℕ) → list_all p xs ≡ true
+  pub first_is : (p : List ℕ → Bool) (xs : List (List ℕ)) (columns : List ℕ) → list_all p xs ≡ true
       → find test xs ≡ Some columns → (p columns ≡ true) × (test columns ≡ true)
   first_is p [] columns h e = absurd (cc)
   first_is p (x ∷ xs) columns h e =

@@ -1,2 +1,4 @@
 pub mod Access
 pub mod Said
+pub mod Choices
+pub mod Alternatives

@@ -3,7 +3,10 @@
 #![tactic(auto)]
 
 pub mod access;
+pub mod alternatives;
+pub mod choices;
 pub mod choosing;
 mod given;
 pub mod safe;
 mod said;
+mod singles;

@@ -3,6 +3,7 @@ use crate::columns::is_key;
 use crate::periods::{is_product_within, is_step_within};
 use crate::references::joined_reference;
 use std::alloc::AllocError;
+use std::slice;
 use tql_bound::query::Chain;
 use tql_bound::reference::Reference;
 use tql_catalog::catalog::Catalog;
@@ -11,6 +12,7 @@ use tql_detail::shown::{Words, push_behind};
 use tql_expr::equality::Equality;
 use tql_memory::Memory;
 use tql_plan::plan::Plan;
+use tql_plan_access::alternatives::Alternatives;
 use tql_query_words::calculations::{Names, first_in_on, first_in_where, push_calculation};
 use tql_query_words::columns::{
     chain_column, chains_column, column_name, definition_of, is_lone, reference_column,
@@ -130,6 +132,24 @@ fn say_sought(
             words.push_str(" (OVERLAPS)")
         }
     }
+}
+
+/// Appends the key or the reference of a table in whose only column several values are looked up.
+fn say_alternatives(
+    definition: &TableDef,
+    alternatives: &Alternatives<'_>,
+    words: &mut Words,
+) -> Result<(), AllocError> {
+    let stored = slice::from_ref(&alternatives.column);
+    let owner = if is_key(definition, stored) {
+        "key"
+    } else {
+        "reference"
+    };
+    let count = alternatives.values.len();
+    let plural = if count == 1 { "" } else { "s" };
+    write!(words, " by {count} value{plural} of its {owner}")?;
+    say_columns(definition, stored, words)
 }
 
 /// Two columns that a join equates: the name of a column of the rows on the left, and the number and the name of a
@@ -303,7 +323,10 @@ impl<'t, 'p> Told<'t, '_, '_, 'p> {
     fn say_first(self, reference: Reference, words: &mut Words) -> Result<(), AllocError> {
         say_reference(self, reference, 0, 0, words)?;
         match definition_of(self.catalog, reference) {
-            Some(definition) => say_sought(definition, self.plan.access.sought(), words),
+            Some(definition) => match &self.plan.alternatives {
+                Some(alternatives) => say_alternatives(definition, alternatives, words),
+                None => say_sought(definition, self.plan.access.sought(), words),
+            },
             None => Ok(()),
         }
     }
@@ -396,7 +419,8 @@ impl<'t, 'p> Told<'t, '_, '_, 'p> {
 
     /// Appends the calculation that may be out of range, if the plan is unsafe and has no lookup.
     fn say_reason(self, words: &mut Words) -> Result<(), AllocError> {
-        if self.plan.is_safe || self.plan.access.sought().is_some() {
+        let is_found = self.plan.access.sought().is_some() || self.plan.alternatives.is_some();
+        if self.plan.is_safe || is_found {
             return Ok(());
         }
         words.push_str(", since ")?;
