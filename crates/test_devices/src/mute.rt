@@ -58,4 +58,8 @@ impl IntervalIndex for Mute {
     fn sharing(&self, _span: Span) -> Result<Vec<Id, Memory>, AllocError> {
         Err(AllocError)
     }
+
+    fn in_groups(&self, _low: i64, _high: i64) -> Result<Vec<Id, Memory>, AllocError> {
+        Err(AllocError)
+    }
 }

@@ -75,6 +75,10 @@ fn make<I: IntervalIndex>(index: &mut I, out: &mut String, step: &str) -> Result
         "over" => write_ids(out, index.overlapping(period(rest)?)?)?,
         "in" => write_ids(out, index.sharing(span(rest)?)?)?,
         "all" => write_ids(out, index.sharing(Span::all(int(rest)?))?)?,
+        "groups" => {
+            let (low, high) = grouped(rest)?;
+            write_ids(out, index.in_groups(low, int(high)?)?)?;
+        }
         _ => return Err(Stop::Form),
     }
     out.push(';')?;

@@ -4,5 +4,5 @@ pub mod Early
 pub mod ScanRows
 pub mod ByKey
 pub mod ByPeriod
-pub mod Passed
 pub mod OverSinks
+pub mod Crossed

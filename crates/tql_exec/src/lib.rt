@@ -3,6 +3,7 @@
 
 mod headings;
 mod joining;
+mod levels;
 mod multiplying;
 mod pushing;
 pub mod running;

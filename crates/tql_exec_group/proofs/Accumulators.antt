@@ -1,6 +1,6 @@
 -- One more row in an accumulator.
 use Rattle.std.specs.Prelude.{◌≡◌, refl, ℕ, ◌+◌, ◌-◌, ◌<◌, ◌≤◌, ◌^◌, Bool, true, false, List, [], ◌∷◌, ◌++◌, length}
-use Rattle.std.specs.Prelude.{slice_index_or, nat_eq, Option, Some, None, pos, if◌then◌else◌, Result, Ok, Err, IfOk}
+use Rattle.std.specs.Prelude.{nat_eq, Option, Some, None, pos, if◌then◌else◌, Result, Ok, Err, IfOk}
 use Rattle.std.specs.Prelude.{IfErr, MatchResult}
 use Rattle.std.proofs.Common.{sym, ap, subst, append_assoc, append-nil, ◌∙◌, arith}
 use Rattle.std.proofs.Math.Bool.{◌||◌}
@@ -10,13 +10,9 @@ use Rattle.tql_spec.specs.Words.{◌>>=◌, map_all, with_front}
 use Rattle.tql_spec.specs.Datum.{Datum, Row, Int, fits}
 use Rattle.tql_spec.specs.Expression.{aggregate, best, eval, Expr, present}
 use Rattle.tql_spec.specs.Expression as bound
-use Rattle.tql_spec.specs.Query.{of_group}
-use Rattle.tql_spec.specs.QueryLaws.{shown}
 use Rattle.tql_value.specs.Views.{datum_of_value}
 use Rattle.tql_value.specs.declared.refusal.Refusal.{Refusal}
 use Rattle.tql_value.specs.declared.refusal.Refusal.TheVariants.{OutOfMemory}
-use Rattle.tql_value.specs.declared.value.Value.{Value}
-use Rattle.tql_expr.specs.Evaluated.{Evaluated}
 use Rattle.tql_expr.specs.Meaning.{expr, aggregate as tree_of}
 use Rattle.tql_expr.specs.Trees.{plain_function}
 use Rattle.tql_expr.specs.declared.node.Function as code
@@ -190,26 +186,8 @@ told_over t f x a rows row few in_range h =
     (h.folds in_range [] ∙ ap (of_present (aggregate (plain_function f)) (expr t x)) (append-nil rows))
 
 pub told_by : (t : Terms) (f : code.Function) (x : ExprId) (which : Aggregate) (a : Accumulator) (rows : List Row)
-    (row : Row) (result : Result Value Refusal) → which ≡ Over f x → a.rows < 2 ^ 63 → a.is_out ≡ false
-    → Evaluated datum_of_value (rest_of (plain_function f) a []) result
-    → HasFolded t which a rows → Evaluated datum_of_value (eval rows row (tree_of t which)) result
-told_by t f x which a rows row result is few in_range told h =
-    subst (λ w. Evaluated datum_of_value (eval rows row (tree_of t w)) result) (sym is)
-    (subst (λ o. Evaluated datum_of_value o result)
-    (told_over t f x a rows row few in_range (subst (λ w. HasFolded t w a rows) is h)) told)
-
--- ---- the row of all results
-
-pub only_pushed : {X : Type 0} (before after : List X) (x : X) → after ≡ before ++ x ∷ [] → before ≡ []
-    → after ≡ x ∷ []
-only_pushed before after x push none = push ∙ ap (λ xs. xs ++ x ∷ []) none
-
-pub shown_one : (exprs : List Expr) (rows made : List Row) (r : Row)
-    → map_all (eval rows (slice_index_or rows 0 [])) exprs ≡ Some r → made ≡ r ∷ []
-    → shown [] exprs (of_group rows ∷ []) ≡ Some made
-shown_one exprs rows made r is one =
-    ap (λ o. with_front o (Some [])) is ∙ ap {B = Option (List Row)} (λ rs. Some rs) (sym one)
-
-pub shown_none : (exprs : List Expr) (rows : List Row) → map_all (eval rows (slice_index_or rows 0 [])) exprs ≡ None
-    → shown [] exprs (of_group rows ∷ []) ≡ None
-shown_none exprs rows is = ap (λ o. with_front o (Some [])) is
+    (row : Row) (o : Option Datum) → which ≡ Over f x → a.rows < 2 ^ 63 → a.is_out ≡ false
+    → o ≡ rest_of (plain_function f) a [] → HasFolded t which a rows → o ≡ eval rows row (tree_of t which)
+told_by t f x which a rows row o is few in_range told h =
+    told ∙ subst (λ w. rest_of (plain_function f) a [] ≡ eval rows row (tree_of t w)) (sym is)
+    (told_over t f x a rows row few in_range (subst (λ w. HasFolded t w a rows) is h))

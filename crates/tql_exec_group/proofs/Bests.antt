@@ -10,11 +10,10 @@ use Rattle.std.specs.Ordering.{is_lt, is_gt, ordering_reverse}
 use Rattle.std.specs.declared.cmp.Ordering.{Ordering}
 use Rattle.std.specs.declared.cmp.Ordering.TheVariants.{Less, Equal, Greater}
 use Rattle.std.proofs.lemmas.List.Sorted.{ranks_by}
-use Rattle.std.proofs.Math.IntN.{+ℤ_assoc, +ℤ_idl}
-use Rattle.tql_spec.specs.Datum.{Datum, Null, Int, Text, Day, Moment, order, is_null, exact, fits, Row}
-use Rattle.tql_spec.specs.Expression.{Expr, Function, Aggregate, eval, best, present, total, aggregate}
+use Rattle.tql_spec.specs.Datum.{Datum, order, is_null, fits, Row}
+use Rattle.tql_spec.specs.Expression.{Expr, Function, Aggregate, eval, best, present, aggregate}
 use Rattle.tql_spec.proofs.Orders.{order-total}
-use Rattle.tql_exec_group.specs.Folds.{is_better, the_better, sum_behind, so_far, added, IsWithin, of_present}
+use Rattle.tql_exec_group.specs.Folds.{is_better, the_better, so_far, IsWithin, of_present}
 
 -- ---- the least or greatest value
 
@@ -74,20 +73,6 @@ one_better greatest a b vs = by_null (is_null a) (is_null b) (is_better greatest
         ∙ first_two (is_better greatest) (ranks greatest) a b (present vs))
 
 -- ---- sums
-
--- one more value
-pub one_summed : (s : Option ℤ) (v : Datum) (vs : List Datum)
-    → sum_behind (added s v) (present vs) ≡ sum_behind s (present (v ∷ vs))
-one_summed None Null vs = refl
-one_summed (Some m) Null vs = refl
-one_summed None (Int n) vs = ap (λ k. exact (k +ℤ total (present vs))) (+ℤ_idl n)
-one_summed (Some m) (Int n) vs = ap exact (+ℤ_assoc m n (total (present vs)))
-one_summed None (Text t) vs = ap exact (+ℤ_idl (total (present vs)))
-one_summed (Some m) (Text t) vs = refl
-one_summed None (Day t) vs = ap exact (+ℤ_idl (total (present vs)))
-one_summed (Some m) (Day t) vs = refl
-one_summed None (Moment t) vs = ap exact (+ℤ_idl (total (present vs)))
-one_summed (Some m) (Moment t) vs = refl
 
 -- adding a number of 64 bits
 pub next_within : (n : ℕ) (s : Option ℤ) (m r : ℤ) → IsWithin n s → neg_ℤ (pos (2 ^ 63)) ≤ℤ m → m <ℤ pos (2 ^ 63)

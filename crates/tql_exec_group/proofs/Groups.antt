@@ -1,229 +1,350 @@
--- The runs of sorted rows are their groups.
-use Rattle.std.specs.Prelude.{◌≡◌, refl, ℕ, zero, suc, ◌<◌, Bool, true, false, not, List, [], ◌∷◌}
-use Rattle.std.specs.Prelude.{◌++◌, map, filter, length, slice_index_or}
-use Rattle.std.proofs.Common.{sym, ap, subst, ◌∙◌, take, drop, arith, cond, inl, inr}
-use Rattle.std.specs.Ordering.{is_eq, is_gt}
-use Rattle.std.specs.declared.cmp.Ordering.TheVariants.{Less, Equal, Greater}
-use Rattle.std.proofs.lemmas.List.{take-append-drop}
-use Rattle.std.proofs.lemmas.Cmp.{tied_itself, upto}
-use Rattle.tql_spec.specs.Bag.{In}
+-- One more row in the groups.
+use Rattle.std.specs.Prelude.{◌≡◌, refl, ℕ, zero, suc, ◌+◌, ◌<◌, ◌≤◌, Bool, true, false, ◌||◌, not, List, [], ◌∷◌}
+use Rattle.std.specs.Prelude.{◌++◌, map}
+use Rattle.std.specs.Prelude.{filter, length, Option, Some, Vec, slice_get, slice_index_or, slice_set}
+use Rattle.std.specs.Prelude.{MatchResult, Result, Ok, Err}
+use Rattle.std.specs.List.{AllZip, list_any}
+use Rattle.std.proofs.Common.{sym, ap, subst, ◌∙◌, cond, arith, drop}
+use Rattle.std.proofs.lemmas.List.{append-nil, drop_all, drop_more, get_or-map, length-append, length-map, map-append}
+use Rattle.std.proofs.lemmas.List.Elements.{filter-append}
+use Rattle.std.proofs.lemmas.Slice.Zip.{all_zipped_more, AllZip-long}
 use Rattle.tql_spec.specs.Datum.{Row, same_row}
-use Rattle.tql_spec.specs.Query.{by_columns, cells_at, distinct_rows, groups_by}
-use Rattle.tql_spec.proofs.Orders.{Ascends, by_columns-total, by_columns-ties}
+use Rattle.tql_spec.specs.Expression.{Cond, Expr}
+use Rattle.tql_spec.specs.Query.{cells_at, distinct_rows, of_group, Scope, scopes}
+use Rattle.tql_spec.specs.QueryLaws.{shown}
 use Rattle.tql_spec.proofs.Members.{by_bool, same_row-self, same_row-is}
-use Rattle.tql_spec.proofs.MemberLists.{in_map}
-use Rattle.tql_spec.proofs.DistinctBags.{in_distinct}
-use Rattle.tql_exec_group.specs.Runs.{IsRun}
+use Rattle.tql_value.specs.declared.refusal.Refusal.{Refusal}
+use Rattle.tql_value.specs.declared.refusal.Refusal.TheVariants.{OutOfMemory}
+use Rattle.tql_expr.proofs.Evaluations.{no_memory}
+use Rattle.tql_expr.specs.Evaluated.{Fails, behind}
+use Rattle.tql_expr.specs.declared.terms.Aggregate.{Aggregate}
+use Rattle.tql_expr.specs.declared.terms.Terms.{Terms}
+use Rattle.tql_exec_group.specs.Begun.{BeginsGroup, TakesAt}
+use Rattle.tql_exec_group.specs.Folded.{HaveFolded}
+use Rattle.tql_exec_group.specs.Grouped.{keys_of, scope_at, with_key, HasGrouped}
+use Rattle.tql_exec_numbered.specs.Numbered.{with_row}
+use Rattle.tql_exec_group.specs.declared.fold.Accumulator.{Accumulator}
+use Rattle.tql_exec_group.specs.declared.grouping.Groups.{Groups}
+use Rattle.tql_exec_numbered.proofs.Known.{found_known, row_known, row_new}
+use Rattle.tql_exec_group.proofs.Repeats.{distinct_with}
+
+-- ---- tests
+
+or_parts : (a b : Bool) → (a || b) ≡ false → (a ≡ false) × (b ≡ false)
+or_parts false b e = (refl, e)
+or_parts true b e = absurd (cc)
+
+not_both : (b : Bool) → b ≡ true → b ≡ false → ⊥
+not_both b e f = cc
+
+inside : {X : Type 0} (x y : X) → ◌≡◌ {A = Option X} (Some x) (Some y) → x ≡ y
+inside x y e = cc
+
+apart_back : (x y : Row) → same_row x y ≡ false → same_row y x ≡ false
+apart_back x y e = by_bool (same_row y x)
+    (λ k. absurd (not_both (same_row x x) (same_row-self x)
+    (subst (λ z. same_row x z ≡ false) (same_row-is y x k) e)))
+    (λ k. k)
 
 -- ---- filters
 
-filter_all_kept : {X : Type 0} (p : X → Bool) (xs : List X) → ((x : X) → In x xs → p x ≡ true) → filter p xs ≡ xs
-filter_all_kept p [] h = refl
-filter_all_kept {X} p (x ∷ xs) h =
-    ap (λ b. cond b (x ∷ filter p xs) (filter p xs)) (h x (inl refl))
-    ∙ ap {B = List X} (λ ys. x ∷ ys) (filter_all_kept p xs (λ y m. h y (inr m)))
+kept : {X : Type 0} (p : X → Bool) (x : X) (xs : List X) → p x ≡ true → filter p (x ∷ xs) ≡ x ∷ filter p xs
+kept p x xs e = ap (λ b. cond b (x ∷ filter p xs) (filter p xs)) e
 
-filter_none_kept : {X : Type 0} (p : X → Bool) (xs ys : List X) → ((x : X) → In x xs → p x ≡ false)
-    → filter p (xs ++ ys) ≡ filter p ys
-filter_none_kept p [] ys h = refl
-filter_none_kept p (x ∷ xs) ys h =
-    ap (λ b. cond b (x ∷ filter p (xs ++ ys)) (filter p (xs ++ ys))) (h x (inl refl))
-    ∙ filter_none_kept p xs ys (λ y m. h y (inr m))
+left_out : {X : Type 0} (p : X → Bool) (x : X) (xs : List X) → p x ≡ false → filter p (x ∷ xs) ≡ filter p xs
+left_out p x xs e = ap (λ b. cond b (x ∷ filter p xs) (filter p xs)) e
 
-filter_front_kept : {X : Type 0} (p : X → Bool) (xs ys : List X) → ((x : X) → In x xs → p x ≡ true)
-    → ((y : X) → In y ys → p y ≡ false) → filter p (xs ++ ys) ≡ xs
-filter_front_kept p [] [] h k = refl
-filter_front_kept p [] (y ∷ ys) h k = ap (λ b. cond b (y ∷ filter p ys) (filter p ys)) (k y (inl refl))
-    ∙ filter_front_kept p [] ys h (λ z m. k z (inr m))
-filter_front_kept {X} p (x ∷ xs) ys h k =
-    ap (λ b. cond b (x ∷ filter p (xs ++ ys)) (filter p (xs ++ ys))) (h x (inl refl))
-    ∙ ap {B = List X} (λ zs. x ∷ zs) (filter_front_kept p xs ys (λ y m. h y (inr m)) k)
+all_kept : {X : Type 0} (p : X → Bool) (xs : List X) → ((x : X) → p x ≡ true) → filter p xs ≡ xs
+all_kept p [] h = refl
+all_kept {X} p (x ∷ xs) h = kept p x xs (h x) ∙ ap {B = List X} (λ ys. x ∷ ys) (all_kept p xs h)
 
-filter_twice : {X : Type 0} (p : X → Bool) (xs : List X) → filter p (filter p xs) ≡ filter p xs
-filter_twice p [] = refl
-filter_twice {X} p (x ∷ xs) = by_bool (p x)
-    (λ e. ap (λ b. filter p (cond b (x ∷ filter p xs) (filter p xs))) e
-    ∙ ap (λ b. cond b (x ∷ filter p (filter p xs)) (filter p (filter p xs))) e
-    ∙ ap {B = List X} (λ ys. x ∷ ys) (filter_twice p xs) ∙ sym (ap (λ b. cond b (x ∷ filter p xs) (filter p xs)) e))
-    (λ e. ap (λ b. filter p (cond b (x ∷ filter p xs) (filter p xs))) e ∙ filter_twice p xs
-    ∙ sym (ap (λ b. cond b (x ∷ filter p xs) (filter p xs)) e))
+any_kept : (q p : Row → Bool) (xs : List Row) → list_any q xs ≡ false → list_any q (filter p xs) ≡ false
+any_kept q p [] e = refl
+any_kept q p (x ∷ xs) e =
+    let parts = or_parts (q x) (list_any q xs) e in
+    by_bool (p x)
+    (λ k. ap (list_any q) (kept p x xs k) ∙ ap (λ b. b || list_any q (filter p xs)) parts.0
+    ∙ any_kept q p xs parts.1)
+    (λ k. ap (list_any q) (left_out p x xs k) ∙ any_kept q p xs parts.1)
 
-map_in : {X Y : Type 0} (f g : X → Y) (xs : List X) → ((x : X) → In x xs → f x ≡ g x) → map f xs ≡ map g xs
-map_in f g [] h = refl
-map_in f g (x ∷ xs) h = let e = h x (inl refl) in let r = map_in f g xs (λ y m. h y (inr m)) in cc
+-- ---- rows that all differ
 
--- different rows
-apart : (a b : Row) → (a ≡ b → ⊥) → same_row a b ≡ false
-apart a b n = by_bool (same_row a b) (λ e. absurd (n (same_row-is a b e))) (λ e. e)
+abbrev AllDiffer : List Row → Type 0
+AllDiffer [] = Unit {0}
+AllDiffer (x ∷ xs) = (list_any (same_row x) xs ≡ false) × AllDiffer xs
 
--- ---- the first run
+abbrev others : Row → List Row → List Row
+others r xs = filter (λ s. not (same_row r s)) xs
 
-module _ (key : Row → Row) (t : Row) (others : List Row) (far : (r : Row) → In r others → t ≡ key r → ⊥) where
-  far_key : (s : Row) → In s (map key others) → t ≡ s → ⊥
-  far_key s m e = among others far s m e
-    where
-      among : (rows : List Row) → ((r : Row) → In r rows → t ≡ key r → ⊥) → (s : Row) → In s (map key rows) → t ≡ s → ⊥
-      among [] h s m e = m
-      among (r ∷ rows) h s (inl i) e = h r (inl refl) (e ∙ i)
-      among (r ∷ rows) h s (inr m) e = among rows (λ q n. h q (inr n)) s m e
+kept_differ : (p : Row → Bool) (xs : List Row) → AllDiffer xs → AllDiffer (filter p xs)
+kept_differ p [] h = tt
+kept_differ p (x ∷ xs) h = by_bool (p x)
+    (λ k. subst AllDiffer (sym (kept p x xs k)) (any_kept (same_row x) p xs h.0, kept_differ p xs h.1))
+    (λ k. subst AllDiffer (sym (left_out p x xs k)) (kept_differ p xs h.1))
 
-  abbrev differs : Row → Bool
-  differs s = not (same_row t s)
+none_among : (r : Row) (xs : List Row) → list_any (same_row r) (others r xs) ≡ false
+none_among r [] = refl
+none_among r (x ∷ xs) = by_bool (same_row r x)
+    (λ is. ap (list_any (same_row r)) (left_out (λ s. not (same_row r s)) x xs (ap not is)) ∙ none_among r xs)
+    (λ apart. ap (list_any (same_row r)) (kept (λ s. not (same_row r s)) x xs (ap not apart))
+    ∙ ap (λ b. b || list_any (same_row r) (others r xs)) apart ∙ none_among r xs)
 
-  -- no other row has the tuple of the run
-  others_differ : filter differs (distinct_rows (map key others)) ≡ distinct_rows (map key others)
-  others_differ = filter_all_kept differs (distinct_rows (map key others))
-      (λ s m. ap not (apart t s (far_key s (in_distinct s (map key others) m))))
+distinct_differ : (rows : List Row) → AllDiffer (distinct_rows rows)
+distinct_differ [] = tt
+distinct_differ (r ∷ rows) = (
+  none_among r (distinct_rows rows),
+  kept_differ (λ s. not (same_row r s)) (distinct_rows rows) (distinct_differ
+      rows),
+)
 
-  -- the tuple of the run appears once among the distinct tuples
-  rest_distinct : (run : List Row) → ((r : Row) → In r run → key r ≡ t)
-      → filter differs (distinct_rows (map key (run ++ others))) ≡ distinct_rows (map key others)
-  rest_distinct [] h = others_differ
-  rest_distinct (r ∷ run) h =
-      let rest = distinct_rows (map key (run ++ others)) in
-      ap (λ k. filter differs (k ∷ filter (λ s. not (same_row k s)) rest)) (h r (inl refl))
-      ∙ ap (λ b. cond (not b) (t ∷ filter differs (filter differs rest)) (filter differs (filter differs rest)))
-      (same_row-self t)
-      ∙ filter_twice differs rest ∙ rest_distinct run (λ q m. h q (inr m))
+keys_differ : (columns : List ℕ) (rows : List Row) → AllDiffer (keys_of columns rows)
+keys_differ [] rows = (refl, tt)
+keys_differ (c ∷ cs) rows = distinct_differ (map (cells_at (c ∷ cs)) rows)
 
-  run_distinct : (r : Row) (run : List Row) → ((q : Row) → In q (r ∷ run) → key q ≡ t)
-      → distinct_rows (map key ((r ∷ run) ++ others)) ≡ t ∷ distinct_rows (map key others)
-  run_distinct r run h =
-      ap (λ k. k ∷ filter (λ s. not (same_row k s)) (distinct_rows (map key (run ++ others)))) (h r (inl refl))
-      ∙ ap {B = List Row} (λ ks. t ∷ ks) (rest_distinct run (λ q m. h q (inr m)))
+-- ---- the keys
 
-  -- the rows with a tuple
-  abbrev with_tuple : List Row → Row → List Row
-  with_tuple rows u = filter (λ r. same_row (key r) u) rows
+keys_grow : (columns : List ℕ) (rows : List Row) (r : Row)
+    → with_row (keys_of columns rows) (cells_at columns r) ≡ keys_of columns (rows ++ r ∷ [])
+keys_grow [] rows r = refl
+keys_grow (c ∷ cs) rows r =
+    sym (ap distinct_rows (map-append (cells_at (c ∷ cs)) rows (r ∷ []))
+    ∙ distinct_with (map (cells_at (c ∷ cs)) rows) (cells_at (c ∷ cs) r))
 
-  run_group : (run : List Row) → ((q : Row) → In q run → key q ≡ t) → with_tuple (run ++ others) t ≡ run
-  run_group run h = filter_front_kept (λ r. same_row (key r) t) run others
-      (λ q m. ap (λ k. same_row k t) (h q m) ∙ same_row-self t)
-      (λ q m. apart (key q) t (λ e. far q m (sym e)))
+-- a row other than q is among the others than q if it is among all
+none_of_all : (q k : Row) (xs : List Row) → same_row k q ≡ false → list_any (same_row k) (others q xs) ≡ false
+    → list_any (same_row k) xs ≡ false
+none_of_all q k [] apart e = refl
+none_of_all q k (x ∷ xs) apart e = by_bool (same_row q x)
+    (λ is. ap (λ b. b || list_any (same_row k) xs) (subst (λ z. same_row k z ≡ false) (same_row-is q x is) apart)
+    ∙ none_of_all q k xs apart
+    (sym (ap (list_any (same_row k)) (left_out (λ s. not (same_row q s)) x xs (ap not is))) ∙ e))
+    (λ far.
+    let parts = or_parts (same_row k x) (list_any (same_row k) (others q xs))
+    (sym (ap (list_any (same_row k)) (kept (λ s. not (same_row q s)) x xs (ap not far))) ∙ e) in
+    ap (λ b. b || list_any (same_row k) xs) parts.0 ∙ none_of_all q k xs apart parts.1)
 
-  other_group : (run : List Row) → ((q : Row) → In q run → key q ≡ t) → (u : Row) → In u (map key others)
-      → with_tuple (run ++ others) u ≡ with_tuple others u
-  other_group run h u m =
-      filter_none_kept (λ r. same_row (key r) u) run others
-      (λ q n. apart (key q) u (λ e. far_key u m (sym (h q n) ∙ e)))
+none_of_rows : (k : Row) (ts : List Row) → list_any (same_row k) (distinct_rows ts) ≡ false
+    → list_any (same_row k) ts ≡ false
+none_of_rows k [] e = refl
+none_of_rows k (t ∷ ts) e =
+    let parts = or_parts (same_row k t) (list_any (same_row k) (others t (distinct_rows ts))) e in
+    ap (λ b. b || list_any (same_row k) ts) parts.0
+    ∙ none_of_rows k ts (none_of_all t k (distinct_rows ts) parts.0 parts.1)
 
-  pub run_first : (r : Row) (run : List Row) → ((q : Row) → In q (r ∷ run) → key q ≡ t)
-      → map (with_tuple ((r ∷ run) ++ others)) (distinct_rows (map key ((r ∷ run) ++ others))) ≡ (r ∷ run) ∷ map
-      (with_tuple others) (distinct_rows (map key others))
-  run_first r run h =
-      let groups = map_in (with_tuple ((r ∷ run) ++ others)) (with_tuple others) (distinct_rows (map key others))
-      (λ u m. other_group (r ∷ run) h u (in_distinct u (map key others) m)) in
-      let first = run_group (r ∷ run) h in
-      ap (map (with_tuple ((r ∷ run) ++ others))) (run_distinct r run h)
-      ∙ ap (λ g. g ∷ map (with_tuple ((r ∷ run) ++ others)) (distinct_rows (map key others))) first
-      ∙ ap {B = List (List Row)} (λ gs. (r ∷ run) ∷ gs) groups
+none_with : (columns : List ℕ) (k : Row) (rows : List Row) → list_any (same_row k) (map (cells_at columns) rows) ≡ false
+    → with_key columns rows k ≡ []
+none_with columns k [] e = refl
+none_with columns k (q ∷ rows) e =
+    let parts = or_parts (same_row k (cells_at columns q)) (list_any (same_row k) (map (cells_at columns) rows)) e in
+    left_out (λ r. same_row (cells_at columns r) k) q rows (apart_back k (cells_at columns q) parts.0)
+    ∙ none_with columns k rows parts.1
 
--- ---- sorted tuples
+-- a group that is new has no rows
+no_rows : (columns : List ℕ) (rows : List Row) (r : Row)
+    → list_any (same_row (cells_at columns r)) (keys_of columns rows) ≡ false
+    → with_key columns rows (cells_at columns r) ≡ []
+no_rows [] rows r e = absurd (cc)
+no_rows (c ∷ cs) rows r e =
+    none_with (c ∷ cs) (cells_at (c ∷ cs) r) rows
+    (none_of_rows (cells_at (c ∷ cs) r) (map (cells_at (c ∷ cs)) rows) e)
 
-above_rest : (x y : Row) (ys : List Row) → is_gt (by_columns x y) ≡ false → Ascends by_columns (y ∷ ys) → (s : Row)
-    → In s (y ∷ ys) → is_gt (by_columns x s) ≡ false
-above_rest x y ys g a s (inl e) = subst (λ z. is_gt (by_columns x z) ≡ false) (sym e) g
-above_rest x y (z ∷ zs) g a s (inr m) = above_rest x z zs (upto by_columns-total x y z g a.0) a.1 s m
-above_rest x y [] g a s (inr m) = absurd m
+-- ---- the rows of a group
 
--- two tuples are equal if neither is greater
-neither : (x y : Row) → is_gt (by_columns x y) ≡ false → is_gt (by_columns y x) ≡ false → x ≡ y
-neither x y g h = elim (by_columns x y) as (λ r. by_columns x y ≡ r → x ≡ y) [
-  | Less ↦ λ e. let k : by_columns y x ≡ Greater = by_columns-total.antisymm y x
-      ∙ rw e refl in absurd (let f : is_gt Greater ≡ false = subst (λ r. is_gt r ≡ false) k h in cc)
-  | Equal ↦ λ e. by_columns-ties x y e
-  | Greater ↦ λ e. absurd (let f : is_gt Greater ≡ false = subst (λ r. is_gt r ≡ false) e g in cc)
-] refl
+module _ (columns : List ℕ) (rows : List Row) (r : Row) where
+  taken : with_key columns (rows ++ r ∷ []) (cells_at columns r) ≡ with_key columns rows (cells_at columns r) ++ r ∷ []
+  taken =
+      let test : Row → Bool = λ q. same_row (cells_at columns q) (cells_at columns r) in
+      filter-append test rows (r ∷ [])
+      ∙ ap (λ rs. with_key columns rows (cells_at columns r) ++ rs) (kept test r [] (same_row-self (cells_at columns
+      r)))
 
--- after a greater tuple, none equals the earlier one
-never_again : (t u : Row) (us : List Row) → Ascends by_columns (t ∷ u ∷ us) → (u ≡ t → ⊥) → (s : Row) → In s (u ∷ us)
-    → t ≡ s → ⊥
-never_again t u us a n s m e =
-    let self : is_gt (by_columns u u) ≡ false = ap is_gt (tied_itself by_columns-total u) in
-    let back : is_gt (by_columns u t) ≡ false =
-    subst (λ z. is_gt (by_columns u z) ≡ false) (sym e) (above_rest u u us self a.1 s m) in
-    n (neither u t back a.0)
+  stays : (key : Row) → same_row (cells_at columns r) key ≡ false
+      → with_key columns (rows ++ r ∷ []) key ≡ with_key columns rows key
+  stays key apart =
+      let test : Row → Bool = λ q. same_row (cells_at columns q) key in
+      filter-append test rows (r ∷ []) ∙ ap (λ rs. with_key columns rows key ++ rs) (left_out test r [] apart)
+      ∙ append-nil (with_key columns rows key)
 
--- ---- a run of sorted rows
+-- ---- a number among keys
 
-module _ (columns : List ℕ) where
-  abbrev key : Row → Row
-  key = cells_at columns
+number_below : (keys : List Row) (k : Row) (n : ℕ) → slice_get keys n ≡ Some k → n < length keys
+number_below [] k zero e = absurd (cc)
+number_below [] k (suc n) e = absurd (cc)
+number_below (x ∷ keys) k zero e = omega arith
+number_below (x ∷ keys) k (suc n) e = let l : n < length keys = number_below keys k n e in omega arith
 
-  -- the first row that does not agree is greater than all that do, and so are the rows after it
-  behind_run : (run : List Row) (r o : Row) (os : List Row) → ((q : Row) → In q (r ∷ run) → key q ≡ key r)
-      → Ascends by_columns (map key ((r ∷ run) ++ o ∷ os))
-      → Ascends by_columns (key r ∷ key o ∷ map key os)
-  behind_run [] r o os h a = a
-  behind_run (q ∷ run) r o os h a =
-      let e : key q ≡ key r = h q (inr (inl refl)) in
-      subst (λ t. Ascends by_columns (t ∷ key o ∷ map key os)) e (behind_run run q o os (λ p m. h p (inr m)
-      ∙ sym e) a.1)
+number_behind : (keys : List Row) (k : Row) (n : ℕ) → list_any (same_row k) keys ≡ false
+    → slice_get (keys ++ k ∷ []) n ≡ Some k → n ≡ length keys
+number_behind [] k zero e at = refl
+number_behind [] k (suc n) e at = absurd (cc)
+number_behind (x ∷ keys) k zero e at =
+    let parts = or_parts (same_row k x) (list_any (same_row k) keys) e in
+    absurd (not_both (same_row k k) (same_row-self k)
+    (subst (λ z. same_row k z ≡ false) (inside x k at) parts.0))
+number_behind (x ∷ keys) k (suc n) e at =
+    let parts = or_parts (same_row k x) (list_any (same_row k) keys) e in
+    let m : n ≡ length keys = number_behind keys k n parts.1 at in omega arith
 
-  far_behind : (r : Row) (run others : List Row) → ((q : Row) → In q (r ∷ run) → key q ≡ key r)
-      → Ascends by_columns (map key ((r ∷ run) ++ others))
-      → ((o : Row) (os : List Row) → others ≡ o ∷ os → key o ≡ key r → ⊥) → (p : Row) → In p others → key r ≡ key p → ⊥
-  far_behind r run [] h a n p m e = m
-  far_behind r run (o ∷ os) h a n p m e =
-      never_again (key r) (key o) (map key os) (behind_run run r o os h a) (n o os refl) (key p)
-      (in_map key p (o ∷ os) m) e
+-- a key other than that at a number
+member_apart : (key k : Row) (keys : List Row) (n : ℕ) → list_any (same_row key) keys ≡ false
+    → slice_get keys n ≡ Some k → same_row k key ≡ false
+member_apart key k keys n e at = by_bool (same_row k key)
+    (λ is. absurd (not_both (list_any (same_row k) keys) (found_known keys k n at)
+    (subst (λ z. list_any (same_row z) keys ≡ false) (sym (same_row-is k key is)) e)))
+    (λ f. f)
 
-  -- a run is the first group
-  pub run_is_group : (r : Row) (run others : List Row) → ((q : Row) → In q (r ∷ run) → key q ≡ key r)
-      → Ascends by_columns (map key ((r ∷ run) ++ others))
-      → ((o : Row) (os : List Row) → others ≡ o ∷ os → key o ≡ key r → ⊥)
-      → groups_by columns ((r ∷ run) ++ others) ≡ (r ∷ run) ∷ groups_by columns others
-  run_is_group r run others h a n = run_first key (key r) others (far_behind r run others h a n) r run h
+-- ---- the accumulators of the groups
 
-  -- the rows after the first n are sorted
-  pub drop_ascends : (n : ℕ) (rows : List Row) → Ascends by_columns (map key rows)
-      → Ascends by_columns (map key (drop n rows))
-  drop_ascends zero rows a = a
-  drop_ascends (suc n) [] a = a
-  drop_ascends (suc n) (r ∷ []) a = drop_ascends n [] tt
-  drop_ascends (suc n) (r ∷ s ∷ rows) a = drop_ascends n (s ∷ rows) a.1
+module _ {X : Type 0} (R R' : Row → X → Type 0) (k : Row)
+    (others_stay : (key : Row) (f : X) → same_row k key ≡ false → R key f → R' key f) where
+  all_stay : (keys : List Row) (folds : List X) → list_any (same_row k) keys ≡ false → AllZip R keys folds
+      → AllZip R' keys folds
+  all_stay [] [] e h = tt
+  all_stay [] (f ∷ fs) e h = absurd h
+  all_stay (key ∷ keys) [] e h = absurd h
+  all_stay (key ∷ keys) (f ∷ fs) e h =
+      let parts = or_parts (same_row k key) (list_any (same_row k) keys) e in
+      (others_stay key f parts.0 h.0, all_stay keys fs parts.1 h.1)
 
-  -- the rows in a prefix
-  in_take : (n : ℕ) (rows : List Row) (q : Row) → In q (take n rows)
-      → (k : ℕ) × (k < n) × (key q ≡ slice_index_or (map key rows) k [])
-  in_take zero rows q m = absurd m
-  in_take (suc n) [] q m = absurd m
-  in_take (suc n) (r ∷ rows) q (inl e) = (0, omega arith, ap key e)
-  in_take (suc n) (r ∷ rows) q (inr m) = let i =
-      in_take n rows q m in (let l : i.0 < n = i.1 in (suc i.0, omega arith, i.2))
+  -- the accumulators of the group at a number take a row
+  one_takes : (n : ℕ) (keys : List Row) (folds : List X) (g : X) → AllDiffer keys → slice_get keys n ≡ Some k
+      → ((d : X) → R k (slice_index_or folds n d) → R' k g) → AllZip R keys folds → AllZip R' keys (slice_set folds n g)
+  one_takes zero [] folds g a at next h = absurd (cc)
+  one_takes (suc n) [] folds g a at next h = absurd (cc)
+  one_takes zero (key ∷ keys) [] g a at next h = absurd h
+  one_takes (suc n) (key ∷ keys) [] g a at next h = absurd h
+  one_takes zero (key ∷ keys) (f ∷ fs) g a at next h =
+      let is : key ≡ k = inside key k at in (
+        subst (λ z. R' z g) (sym is) (next f (subst (λ z. R z f) is h.0)),
+        all_stay keys fs (subst (λ z. list_any (same_row z) keys ≡ false) is a.0) h.1,
+      )
+  one_takes (suc n) (key ∷ keys) (f ∷ fs) g a at next h =
+      (others_stay key f (member_apart key k keys n a.0 at) h.0, one_takes n keys fs g a.1 at next h.1)
 
-  at_drop : (n : ℕ) (rows : List Row) (o : Row) (os : List Row) → drop n rows ≡ o ∷ os
-      → (n < length (map key rows)) × (slice_index_or (map key rows) n [] ≡ key o)
-  at_drop zero [] o os e = absurd (let f : [] ≡ o ∷ os = e in cc)
-  at_drop zero (r ∷ rows) o os e = (omega arith, let f : r ∷ rows ≡ o ∷ os = e in (let g : r ≡ o = cc in ap key g))
-  at_drop (suc n) [] o os e = absurd (let f : [] ≡ o ∷ os = e in cc)
-  at_drop (suc n) (r ∷ rows) o os e = let i = at_drop n rows o os e in let l : n < length (map key rows) =
-      i.0 in (omega arith, i.1)
+module _ {A : Type 0} (R : Row → Vec Accumulator A → Type 0) (aggregates : List Aggregate) (keys : List Row) (k : Row)
+    (n : ℕ) (folds more : List (Vec Accumulator A)) (begins : BeginsGroup aggregates n folds more)
+    (at : slice_get (with_row keys k) n ≡ Some k) (h : AllZip R keys folds) where
+  same_length : length folds ≡ length keys
+  same_length = AllZip-long R keys folds h
 
-  -- the rows of a run, and those after it
-  pub first_group : (rows : List Row) (n : ℕ) → 0 < length rows → IsRun (map key rows) n
-      → Ascends by_columns (map key rows)
-      → groups_by columns rows ≡ take n rows ∷ groups_by columns (drop n rows)
-  first_group [] n some run a = absurd (omega (arith, some))
-  first_group (r ∷ rows) zero some run a = absurd (let l : 0 < 0 = run.some (omega arith) in omega arith)
-  first_group (r ∷ rows) (suc n) some run a =
-      let whole = take-append-drop n rows in
-      let e : (r ∷ take n rows) ++ drop n rows ≡ r ∷ rows = ap {B = List Row} (λ rs. r ∷ rs) whole in
-      subst (λ rs. groups_by columns rs ≡ (r ∷ take n rows) ∷ groups_by columns (drop n rows)) e
-      (run_is_group r (take n rows) (drop n rows)
-      (λ q m. let i = in_take (suc n) (r ∷ rows) q m in i.2 ∙ run.agree i.0 i.1)
-      (subst (λ rs. Ascends by_columns (map key rs)) (sym e) a)
-      (λ o os is k. let i = at_drop n rows o os is in
-      run.ends (let l : n < length (map key rows) = i.0 in omega arith) (i.1 ∙ k)))
+  -- accumulators of no rows, where the group is new
+  all_begun : (list_any (same_row k) keys ≡ false → (f : Vec Accumulator A)
+      → ((t : Terms) → HaveFolded t aggregates f.items []) → R k f) → AllZip R (with_row keys k) more
+  all_begun fresh = by_bool (list_any (same_row k) keys)
+      (λ known.
+      let below : n < length keys = number_below keys k n (ap (λ ks. slice_get ks n) (sym (row_known keys k known)) ∙
+      at) in
+      let same : more ≡ folds = begins.kept (λ e. absurd (omega (arith, e, below, same_length))) in
+      subst (λ ks. AllZip R ks more) (sym (row_known keys k known)) (subst (AllZip R keys) (sym same) h))
+      (λ new.
+      let next : n ≡ length keys =
+      number_behind keys k n new (ap (λ ks. slice_get ks n) (sym (row_new keys k new)) ∙ at) in
+      let added = begins.added (next ∙ sym same_length) in
+      subst (λ ks. AllZip R ks more) (sym (row_new keys k new))
+      (subst (AllZip R (keys ++ k ∷ [])) (sym added.1)
+      (all_zipped_more R keys folds k added.0 h (fresh new added.0 added.2))))
 
--- ---- tuples that tie
+  begun_below : n < length more
+  begun_below = by_bool (list_any (same_row k) keys)
+      (λ known.
+      let below : n < length keys = number_below keys k n (ap (λ ks. slice_get ks n) (sym (row_known keys k known)) ∙
+      at) in
+      let same : more ≡ folds = begins.kept (λ e. absurd (omega (arith, e, below, same_length))) in
+      let long : length more ≡ length folds = ap length same in omega (arith, below, same_length, long))
+      (λ new.
+      let next : n ≡ length keys =
+      number_behind keys k n new (ap (λ ks. slice_get ks n) (sym (row_new keys k new)) ∙ at) in
+      let added = begins.added (next ∙ sym same_length) in
+      let long : length more ≡ length folds + 1 = ap length added.1 ∙ length-append folds (added.0 ∷ []) in
+      omega (arith, next, same_length, long))
 
-pub ties : (a b : Row) → is_eq (by_columns a b) ≡ true → a ≡ b
-ties a b e = elim (by_columns a b) as (λ r. by_columns a b ≡ r → a ≡ b) [
-  | Less ↦ λ f. absurd (let g : is_eq Less ≡ true = subst (λ r. is_eq r ≡ true) f e in cc)
-  | Equal ↦ λ f. by_columns-ties a b f
-  | Greater ↦ λ f. absurd (let g : is_eq Greater ≡ true = subst (λ r. is_eq r ≡ true) f e in cc)
-] refl
+-- one more row
+pub grouped_more : {A : Type 0} (t : Terms) (columns : List ℕ) (given aggregates : List Aggregate) (old new : List Row)
+    (rows : List Row) (r : Row) (n : ℕ) (folds more last : List (Vec Accumulator A))
+    → given ≡ aggregates
+    → new ≡ with_row old (cells_at columns r) → slice_get new n ≡ Some (cells_at columns r)
+    → BeginsGroup given n folds more → TakesAt t given n more last r
+    → old ≡ keys_of columns rows
+    → AllZip (λ key f. HaveFolded t aggregates f.items (with_key columns rows key)) (keys_of columns rows) folds
+    → (new ≡ keys_of columns (rows ++ r ∷ []))
+    × AllZip (λ key f. HaveFolded t aggregates f.items (with_key columns (rows ++ r ∷ []) key))
+    (keys_of columns (rows ++ r ∷ [])) last
+grouped_more {A} t columns given aggregates old new rows r n folds more last same put at begins takes keys h =
+    let k : Row = cells_at columns r in
+    let before : List Row = keys_of columns rows in
+    let later : List Row = keys_of columns (rows ++ r ∷ []) in
+    let grown : with_row before k ≡ later = keys_grow columns rows r in
+    let is : new ≡ with_row before k = put ∙ ap (λ ks. with_row ks k) keys in
+    let found : slice_get (with_row before k) n ≡ Some k = ap (λ ks. slice_get ks n) (sym is) ∙ at in
+    let begins' : BeginsGroup aggregates n folds more = subst (λ ws. BeginsGroup ws n folds more) same begins in
+    let takes' : TakesAt t aggregates n more last r = subst (λ ws. TakesAt t ws n more last r) same takes in
+    let of_rows : Row → Vec Accumulator A → Type 0 =
+    λ key f. HaveFolded t aggregates f.items (with_key columns rows key) in
+    let of_more : Row → Vec Accumulator A → Type 0 =
+    λ key f. HaveFolded t aggregates f.items (with_key columns (rows ++ r ∷ []) key) in
+    let begun : AllZip of_rows later more =
+    subst (λ ks. AllZip of_rows ks more) grown
+    (all_begun of_rows aggregates before k n folds more begins' found h
+    (λ fresh f none. subst (HaveFolded t aggregates f.items) (sym (no_rows columns rows r fresh)) (none t))) in
+    let took = takes' (begun_below of_rows aggregates before k n folds more begins' found h) in
+    let all : AllZip of_more later (slice_set more n took.0) =
+    one_takes of_rows of_more k
+    (λ key f apart g. subst (HaveFolded t aggregates f.items) (sym (stays columns rows r key apart)) g)
+    n later more took.0 (keys_differ columns (rows ++ r ∷ [])) (ap (λ ks. slice_get ks n) (sym grown) ∙ found)
+    (λ d g. subst (HaveFolded t aggregates took.0.items) (sym (taken columns rows r))
+    (took.2 d (with_key columns rows k) g))
+    begun in
+    (is ∙ grown, subst (AllZip of_more later) (sym took.1) all)
 
-pub ties_itself : (a b : Row) → a ≡ b → is_eq (by_columns a b) ≡ true
-ties_itself a b e = subst (λ z. is_eq (by_columns a z) ≡ true) e (ap is_eq (tied_itself by_columns-total a))
+-- the result of a step that only memory can refuse
+pub takes_if : {U P Q : Type 0} (o : Option (List Row)) (result : Result U Refusal) → (P → Q)
+    → MatchResult result (λ _. P) (λ e. e ≡ OutOfMemory) → MatchResult result (λ _. Q) (Fails o)
+takes_if o (Ok u) f h = f h
+takes_if o (Err e) f h = no_memory o e h
+
+pub as_long : (t : Terms) (columns : List ℕ) (aggregates : List Aggregate) (s : Groups) (rows : List Row)
+    → HasGrouped t columns aggregates s rows
+    → (length s.folds.items ≡ length (keys_of columns rows)) × (length s.keys ≡ length (keys_of columns rows))
+as_long t columns aggregates s rows h = (
+  AllZip-long (λ key folds. HaveFolded t aggregates folds.items (with_key columns rows key)) (keys_of columns rows)
+      s.folds.items h.folds,
+  ap length h.keys,
+)
+
+-- ---- the groups of rows
+
+pub scopes_are : (columns : List ℕ) (rows : List Row)
+    → scopes (Some columns) rows ≡ map of_group (map (with_key columns rows) (keys_of columns rows))
+scopes_are [] rows = ap (λ rs. of_group rs ∷ []) (sym (all_kept (λ r. same_row (cells_at [] r) []) rows (λ r. refl)))
+scopes_are (c ∷ cs) rows = refl
+
+-- the group with a number among them
+module _ (columns : List ℕ) (rows : List Row) where
+  pub scopes_long : length (scopes (Some columns) rows) ≡ length (keys_of columns rows)
+  scopes_long = ap length (scopes_are columns rows)
+      ∙ length-map (map (with_key columns rows) (keys_of columns rows)) of_group
+      ∙ length-map (keys_of columns rows) (with_key columns rows)
+
+  pub scope_is : (n : ℕ) (d : Scope) → n < length (keys_of columns rows)
+      → slice_index_or (scopes (Some columns) rows) n d ≡ scope_at columns rows n
+  scope_is n d l =
+      let keys : List Row = keys_of columns rows in
+      ap (λ ss. slice_index_or ss n d) (scopes_are columns rows)
+      ∙ get_or-map of_group (map (with_key columns rows) keys) n [] d
+      (omega (arith, l, length-map keys (with_key columns rows)))
+      ∙ ap of_group (get_or-map (with_key columns rows) keys n [] [] l)
+
+  -- the groups from a number on
+  pub scopes_from : (n : ℕ) → n < length (keys_of columns rows)
+      → drop n (scopes (Some columns) rows) ≡ scope_at columns rows n ∷ drop (n + 1) (scopes (Some columns) rows)
+  scopes_from n l =
+      let d : Scope = scope_at columns rows n in
+      drop_more (scopes (Some columns) rows) n d (omega (arith, l, scopes_long))
+      ∙ ap (λ s. s ∷ drop (n + 1) (scopes (Some columns) rows)) (scope_is n d l)
+
+-- no group remains
+pub all_shown : (having : List Cond) (items : List Expr) (ss : List Scope) (n : ℕ) (made : List Row)
+    (all : Option (List Row)) → length ss ≤ n → behind made (shown having items (drop n ss)) ≡ all → all ≡ Some made
+all_shown having items ss n made all past so_far =
+    sym so_far ∙ ap (λ rest. behind made (shown having items rest)) (drop_all n ss past)
+    ∙ ap {B = Option (List Row)} (λ rs. Some rs) (append-nil made)

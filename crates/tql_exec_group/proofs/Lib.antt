@@ -1,8 +1,9 @@
 pub mod Remaining
 pub mod Bests
 pub mod Scopes
+pub mod Repeats
 pub mod Groups
-pub mod Keys
-pub mod Answered
+pub mod OnGroup
+pub mod Collected
 pub mod Accumulators
 pub mod Turns

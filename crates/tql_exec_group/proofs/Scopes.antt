@@ -82,7 +82,7 @@ module _ (having : List Cond) (items : List Expr) where
       ∙ ap (λ o. o >>= λ xs. behind xs (shown having items ss)) none
 
   -- one more scope at the end
-  last_shown : (ss : List Scope) (s : Scope)
+  pub last_shown : (ss : List Scope) (s : Scope)
       → shown having items (ss ++ s ∷ []) ≡ shown having items ss >>= λ xs. behind xs (shown having items (s ∷ []))
   last_shown [] s = nothing_first (shown having items (s ∷ []))
   last_shown (q ∷ ss) s =

@@ -1,6 +1,7 @@
+pub mod Begun
 pub mod Folded
-pub mod FoldedItems
 pub mod Folds
-pub mod Members
+pub mod Grouped
 pub mod Operands
-pub mod Runs
+pub mod Results
+pub mod Steps

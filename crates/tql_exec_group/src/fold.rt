@@ -82,7 +82,6 @@ impl Accumulator {
     ghost use Rattle.tql_spec.specs.Datum as pure;
     ghost use Rattle.tql_spec.specs.Expression as bound;
     ghost use Rattle.tql_value.specs.Views.{datum_of_value, datum_of_view, outcome};
-    ghost use Rattle.tql_expr.specs.Evaluated.{Evaluated};
     ghost use Rattle.tql_expr.specs.Meaning.{aggregate as tree_of, HasOperand};
     ghost use Rattle.tql_expr.specs.Trees.{plain_function};
     ghost use Rattle.tql_expr.specs.declared.terms.Aggregate.{Aggregate};
@@ -164,26 +163,18 @@ impl Accumulator {
         }
     }
 
-    /// Returns the result of a function over the values so far. Refused if a sum overflows 64 bits, or if out of
-    /// memory.
-    fn told_over(&self, memory: Memory, function: Function) -> Result<Value, Refusal>
-        ensures { Evaluated datum_of_value (rest_of (plain_function function) self.now []) result }
-    {
-        self.result(function)?.to_value(memory)
-    }
-
-    /// Returns the result of the aggregate over the rows so far. Refused if the result is out of range, or the operand
-    /// was on some row, or if out of memory. The result over 2^63 rows or more is out of range.
-    pub(crate) fn told(&self, memory: Memory, which: Aggregate) -> Result<Value, Refusal>
+    /// Returns the result of the aggregate over the rows so far, or `Range` if it or, on some row, the operand is out
+    /// of range. The result over 2^63 rows or more is out of range. Makes no allocation.
+    pub(crate) fn told(&self, which: Aggregate) -> Result<View<'_>, Range>
         ensures { (t : Terms) (rows : List pure.Row) (row : pure.Row) → HasFolded t which self.now rows
-            → Evaluated datum_of_value (bound.eval rows row (tree_of t which)) result }
+            → outcome result ≡ bound.eval rows row (tree_of t which) }
     {
         if self.is_out {
-            return Err(Refusal::ValueOutOfRange);
+            return Err(Range);
         }
         match which {
-            Aggregate::Rows => Ok(Value::Int(self.rows as i64)),
-            Aggregate::Over(function, _) => self.told_over(memory, function),
+            Aggregate::Rows => Ok(View::Int(self.rows as i64)),
+            Aggregate::Over(function, _) => self.result(function),
         }
     }
 }

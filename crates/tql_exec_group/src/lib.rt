@@ -2,9 +2,10 @@
 #![tactic(auto)]
 
 mod aggregates;
+pub mod distinct;
 pub mod fold;
-pub mod folding;
-mod group;
+pub mod grouping;
 pub mod listing;
-mod runs;
-pub mod showing;
+mod on_group;
+mod showing;
+pub mod steps;

@@ -12,7 +12,6 @@ use Rattle.tql_spec.specs.History as history
 use Rattle.tql_spec.specs.Horizon.{is_before}
 use Rattle.tql_spec.specs.Query.{keep}
 use Rattle.tql_spec.specs.Words.{kept_if}
-use Rattle.tql_spec.proofs.Bags.{same-map}
 use Rattle.tql_value.specs.declared.when.When.TheVariants.{Now}
 use Rattle.tql_expr.specs.Evaluated.{behind}
 use Rattle.tql_versions.specs.Readings.{is_answer, open_ones}
@@ -22,18 +21,17 @@ use Rattle.tql_store.specs.Represents.{Copies, Working, Represents, seen_by}
 use Rattle.tql_store.specs.StoreModel.{StoreModel}
 use Rattle.tql_store.specs.Views.{AreRowsNow}
 use Rattle.tql_plan.specs.Nodes.{Scan}
-use Rattle.tql_exec_read.specs.Found.{bags_in, completed, IsReadable}
+use Rattle.tql_exec_read.specs.Found.{versions_in, IsReadable}
 
 -- ---- a scan of the current rows
 
--- the open ones among the current versions are the rows of the scan
-pub rows_now : (h : StoreModel) (s : Scan) (vs : List Version) → IsReadable h s → s.when ≡ history.Now
+-- the open ones among the current versions are the versions of the scan
+pub open_now : (h : StoreModel) (s : Scan) (vs : List Version) → IsReadable h s → s.when ≡ history.Now
     → AreRowsNow h s.table vs → (copies : Copies) (working : Working) → Represents h copies working
-    → SameBag (map (completed s.system) (open_ones vs)) (bags_in h copies working s)
-rows_now h s vs readable now rows copies working r =
-    same-map (completed s.system)
-    (subst (λ (w : When). SameBag (open_ones vs) (found w (seen_by h.working copies working s.table))) (sym now)
-    (rows.copies (subst (λ (w : When). is_before h.horizon w ≡ false) now readable.within) copies working r))
+    → SameBag (open_ones vs) (versions_in h copies working s)
+open_now h s vs readable now rows copies working r =
+    subst (λ (w : When). SameBag (open_ones vs) (found w (seen_by h.working copies working s.table))) (sym now)
+    (rows.copies (subst (λ (w : When). is_before h.horizon w ≡ false) now readable.within) copies working r)
 
 -- the rows of the open versions
 abbrev pub rows_of : (Version → Row) → List Kept → List Row

@@ -1,7 +1,8 @@
 //! Reads the rows of a table through a snapshot of the store: all rows of a scan, those that pass conjuncts, and those
-//! that a key or a period finds.
+//! that a key or a period finds. The rows of one scan that pass WHERE are also handed to a sink.
 #![tactic(auto)]
 
 pub mod alternatives;
 pub mod finding;
+pub mod pushing;
 pub mod reading;

@@ -1,9 +1,8 @@
 -- The order of places and spans on the line of all groups.
-use Rattle.std.specs.Prelude.{◌≡◌, ℕ, ◌^◌, false, nat_eq, ℤ, pos, neg_ℤ, ◌<ℤ◌, ◌≤ℤ◌}
+use Rattle.std.specs.Prelude.{◌≡◌, ◌^◌, false, ℤ, pos, neg_ℤ, int_lt, ◌<ℤ◌, ◌≤ℤ◌}
 use Rattle.std.specs.declared.cmp.Ordering.{Ordering}
 use Rattle.std.specs.Ordering.{int_cmp, ordering_then}
 use Rattle.std.proofs.Common.{arith, sym, ap, ◌∙◌}
-use Rattle.std.proofs.lemmas.Bool.Decides.{nat_tests}
 use Rattle.std.proofs.lemmas.Int.{ints, clamps, by_lt_z}
 use Rattle.tql_spec.specs.Period.{Period, share_a_point}
 use Rattle.tql_index.specs.Line.{placed}
@@ -14,9 +13,6 @@ use Rattle.tql_index.proofs.Order.{int_less, int_same, int_greater}
 pub record IsWord (n : ℤ) : Type 0 where
   pub low : neg_ℤ (pos (2 ^ 63)) ≤ℤ n
   pub high : n <ℤ pos (2 ^ 63)
-
-pub not_same : (a b : ℕ) → (a ≡ b → ⊥) → nat_eq a b ≡ false
-not_same a b n = grind (arith, nat_tests)
 
 -- each point of the lesser group is before the points of the other
 less_group : (g h s t : ℤ) → g <ℤ h → IsWord s → IsWord t → placed g s <ℤ placed h t
@@ -75,28 +71,20 @@ span_order g h s t e f a b c d o w v i j k l m =
     m ∙ ap (λ z. ordering_then z d) n ∙ ap (λ z. ordering_then (int_cmp (placed g s) (placed h t)) z) l
     ∙ ends_order g h s t e f w v
 
--- ---- points that two spans share
+-- ---- points that a span shares with a stretch of the line
 
-pub share_in_one : (g h : ℤ) (x y : Period) → g ≡ h → share_a_point x y ≡ share_a_point (in_group g x) (in_group h y)
-share_in_one g h x y e = grind (arith, ints, clamps, e)
+-- nothing is shared with a stretch that does not rise, or that ends before
+pub share_none : (x y : Period) → y.end ≤ℤ y.start → false ≡ share_a_point x y
+share_none x y h = grind (arith, ints, clamps, h)
 
--- spans of different groups share no point
-apart : (g h : ℤ) (x y : Period) → g <ℤ h → IsWord x.end → IsWord y.start
-    → share_a_point (in_group g x) (in_group h y) ≡ false
-apart g h x y l a b =
-    let m = less_group g h x.end y.start l a b in
-    grind (arith, ints, clamps, m)
+pub share_before : (x y : Period) → y.end ≤ℤ x.start → false ≡ share_a_point x y
+share_before x y h = grind (arith, ints, clamps, h)
 
-apart_back : (g h : ℤ) (x y : Period) → h <ℤ g → IsWord x.start → IsWord y.end
-    → share_a_point (in_group g x) (in_group h y) ≡ false
-apart_back g h x y l a b =
-    let m = less_group h g y.end x.start l b a in
-    grind (arith, ints, clamps, m)
+-- else whether something is shared is a matter of the stretch's start alone
+pub share_by_start : (x y : Period) → x.start <ℤ x.end → y.start <ℤ y.end → x.start <ℤ y.end
+    → int_lt y.start x.end ≡ share_a_point x y
+share_by_start x y h k l = grind (arith, ints, clamps, h, k, l)
 
-pub share_apart : (g h : ℤ) (x y : Period) → (g ≡ h → ⊥) → IsWord x.start → IsWord x.end → IsWord y.start → IsWord y.end
-    → share_a_point (in_group g x) (in_group h y) ≡ false
-share_apart g h x y n a b c d = by_lt_z g h
-    (λ l. apart g h x y l b c)
-    (λ l. by_lt_z h g
-    (λ m. apart_back g h x y m a d)
-    (λ m. absurd (n (omega (arith, ints, l, m)))))
+-- a period that rises does so in a group
+pub rises_in : (g : ℤ) (x : Period) → x.start <ℤ x.end → (in_group g x).start <ℤ (in_group g x).end
+rises_in g x h = omega (arith, ints, h)

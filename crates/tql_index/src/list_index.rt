@@ -1,7 +1,11 @@
 //! An index that is a plain list.
-ghost use Rattle.std.specs.Prelude.{◌≡◌, ◌↔◌, ◌<◌, [], length, map, slice_index_or, Contains, IsTrue, IfSome, IfNone};
+ghost use Rattle.std.specs.Prelude.{◌≡◌, ◌↔◌, ◌<◌, [], length, map, slice_index_or, Contains, IsTrue, IfOk, IfSome};
+ghost use Rattle.std.specs.Prelude.{IfNone};
 ghost use Rattle.std.specs.Bool.{OnTrue, OnFalse};
+ghost use Rattle.tql_spec.specs.Bag.{SameBag};
+ghost use Rattle.tql_index.specs.Entry.{ids_sharing};
 ghost use Rattle.tql_index.specs.ListEntries.{entry_held};
+ghost use Rattle.tql_index.specs.Spans.{points_between};
 
 use crate::index::{Id, IntervalIndex};
 use crate::line::Place;
@@ -78,6 +82,17 @@ impl ListIndex {
     {
         self.held.is_empty()
     }
+
+    // Returns the numbers of the entries that share a point with the line from one place up to another.
+    fn between(&self, from: Place, to: Place) -> Result<Vec<Id, Memory>, AllocError>
+        ensures { IfOk result (λ ids. SameBag ids.items (ids_sharing (points_between from to) self.now)) }
+    {
+        let mut found = Vec::new(self.memory);
+        for held in &self.held {
+            push_if(&mut found, held.span.shares(from, to), held.id)?;
+        }
+        Ok(found)
+    }
 }
 
 impl IntervalIndex for ListIndex {
@@ -124,10 +139,10 @@ impl IntervalIndex for ListIndex {
     }
 
     fn sharing(&self, span: Span) -> Result<Vec<Id, Memory>, AllocError> {
-        let mut found = Vec::new(self.memory);
-        for held in &self.held {
-            push_if(&mut found, held.span.shares_a_point(span), held.id)?;
-        }
-        Ok(found)
+        self.between(span.start(), span.end())
+    }
+
+    fn in_groups(&self, low: i64, high: i64) -> Result<Vec<Id, Memory>, AllocError> {
+        self.between(Span::all(low).start(), Span::all(high).end())
     }
 }

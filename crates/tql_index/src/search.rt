@@ -2,10 +2,9 @@
 ghost use Rattle.std.specs.Prelude.{◌≡◌, ◌++◌, OnOk, OnErr};
 ghost use Rattle.tql_index.specs.Entry.{id_if, ids_at, ids_sharing};
 ghost use Rattle.tql_index.specs.Line.{place_of};
-ghost use Rattle.tql_index.specs.Spans.{span_of};
+ghost use Rattle.tql_index.specs.Spans.{points_between};
 
 use crate::line::Place;
-use crate::span::Span;
 use crate::tree::Tree;
 use std::alloc::{AllocError, Allocator};
 use tql_memory::Memory;
@@ -44,24 +43,27 @@ pub fn stab<A: Allocator>(
     stab(&top.right, place, found)
 }
 
-// Appends the numbers of the entries that share a point with the span. Skips subtrees as `stab` does.
+// Appends the numbers of the entries that share a point with the line from one place up to another. Skips subtrees as
+// `stab` does.
 pub fn overlapping<A: Allocator>(
     tree: &Tree<A>,
-    span: Span,
+    from: Place,
+    to: Place,
     found: &mut Vec<usize, Memory>,
 ) -> Result<(), AllocError>
-    ensures { OnOk result (found.new.items ≡ found.old.items ++ ids_sharing (span_of span) tree.now.entries) }
+    ensures { OnOk result
+        (found.new.items ≡ found.old.items ++ ids_sharing (points_between from to) tree.now.entries) }
 {
     let Some(top) = tree.top() else {
         return Ok(());
     };
-    if !span.start().is_before(top.greatest) {
+    if !from.is_before(top.greatest) {
         return Ok(());
     }
-    overlapping(&top.left, span, found)?;
-    if !top.span.start().is_before(span.end()) {
+    overlapping(&top.left, from, to, found)?;
+    if !top.span.start().is_before(to) {
         return Ok(());
     }
-    push_if(found, top.span.shares_a_point(span), top.id)?;
-    overlapping(&top.right, span, found)
+    push_if(found, top.span.shares(from, to), top.id)?;
+    overlapping(&top.right, from, to, found)
 }

@@ -4,7 +4,7 @@ ghost use Rattle.std.specs.Ordering.{int_cmp, ordering_then};
 ghost use Rattle.tql_spec.specs.Period.{holds as held, share_a_point};
 ghost use Rattle.tql_period.specs.Points.{points_of};
 ghost use Rattle.tql_index.specs.Line.{place_of};
-ghost use Rattle.tql_index.specs.Spans.{span_of, in_group, all_of_group};
+ghost use Rattle.tql_index.specs.Spans.{span_of, in_group, all_of_group, points_between};
 
 use crate::line::Place;
 use std::cmp::Ordering;
@@ -52,11 +52,14 @@ impl Span {
         self.group == place.group && self.period.holds(place.point)
     }
 
-    /// Whether two spans share a point.
-    pub fn shares_a_point(self, other: Span) -> bool
-        ensures { result ≡ share_a_point (span_of self) (span_of other) }
+    /// Whether the span shares a point with the line from one place up to another.
+    pub(crate) fn shares(self, from: Place, to: Place) -> bool
+        ensures { result ≡ share_a_point (span_of self) (points_between from to) }
     {
-        self.group == other.group && self.period.shares_a_point(other.period)
+        if !from.is_before(to) {
+            return false;
+        }
+        self.start().is_before(to) && from.is_before(self.end())
     }
 
     /// Returns the first point.

@@ -1,5 +1,8 @@
 //! An index that is a balanced tree.
-ghost use Rattle.std.specs.Prelude.{◌≡◌, ◌↔◌, ◌^◌, ◌<◌, ◌≤◌, [], length, IsTrue};
+ghost use Rattle.std.specs.Prelude.{◌≡◌, ◌↔◌, ◌^◌, ◌<◌, ◌≤◌, [], length, IsTrue, IfOk};
+ghost use Rattle.tql_spec.specs.Bag.{SameBag};
+ghost use Rattle.tql_index.specs.Entry.{ids_sharing};
+ghost use Rattle.tql_index.specs.Spans.{points_between};
 ghost use Rattle.tql_index.specs.Tree.{IsShallow};
 
 use crate::edit::{insert, remove};
@@ -61,6 +64,15 @@ impl TreeIndex {
         self.tree.know();
         usize::from(self.tree.height())
     }
+
+    // Returns the numbers of the entries that share a point with the line from one place up to another.
+    fn between(&self, from: Place, to: Place) -> Result<Vec<Id, Memory>, AllocError>
+        ensures { IfOk result (λ ids. SameBag ids.items (ids_sharing (points_between from to) self.now)) }
+    {
+        let mut found = Vec::new(self.memory);
+        overlapping(&self.tree, from, to, &mut found)?;
+        Ok(found)
+    }
 }
 
 impl IntervalIndex for TreeIndex {
@@ -120,8 +132,10 @@ impl IntervalIndex for TreeIndex {
     }
 
     fn sharing(&self, span: Span) -> Result<Vec<Id, Memory>, AllocError> {
-        let mut found = Vec::new(self.memory);
-        overlapping(&self.tree, span, &mut found)?;
-        Ok(found)
+        self.between(span.start(), span.end())
+    }
+
+    fn in_groups(&self, low: i64, high: i64) -> Result<Vec<Id, Memory>, AllocError> {
+        self.between(Span::all(low).start(), Span::all(high).end())
     }
 }

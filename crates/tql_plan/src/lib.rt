@@ -9,5 +9,6 @@ mod marks;
 pub mod plan;
 pub mod planner;
 mod products;
+mod screens;
 pub mod stored;
 mod widths;

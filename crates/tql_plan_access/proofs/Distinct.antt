@@ -1,14 +1,15 @@
 -- Values in order, one of each.
 use Rattle.std.proofs.Common.{◌≡◌, ◌∙◌, refl, sym, ap, subst, Bool, true, false, ◌&&◌, cond, List, [], ◌∷◌, map}
-use Rattle.std.proofs.Common.{◌+◌, ◌<◌, arith, length}
+use Rattle.std.proofs.Common.{◌+◌, ◌<◌, arith, get_or, length}
 use Rattle.std.specs.Prelude.{◌||◌, not, ltb}
 use Rattle.std.specs.List.{AllByRecursion, dedup, dedup_from, list_any}
 use Rattle.std.specs.List.Sorted.{IsPermutation, IsSorted, IsSortedBy, IsStrictlySortedBy}
 use Rattle.std.specs.Cmp.{Equal-is}
-use Rattle.std.specs.Ordering.{is_eq, is_lt}
+use Rattle.std.specs.Ordering.{is_eq, is_lt, ordering_reverse}
 use Rattle.std.specs.declared.cmp.Ordering.TheVariants.{Less}
 use Rattle.std.proofs.lemmas.List.{get_or-map, length-map}
 use Rattle.std.proofs.lemmas.List.Kept.{IsStrictlySortedBy-dedup}
+use Rattle.std.proofs.lemmas.Map.Keys.{Less-from_sorted}
 use Rattle.tql_spec.specs.Datum.{Datum, Null, Int, Text, Day, Moment, is_null, order}
 use Rattle.tql_spec.proofs.Bags.{same-map, same-permutation}
 use Rattle.tql_spec.proofs.Members.{any-total, by_bool}
@@ -82,6 +83,19 @@ pub kept_distinct : (vs : List Datum) → IsSorted order vs → list_any is_null
 kept_distinct vs s n =
     rising_distinct (dedup tie vs)
     (IsStrictlySortedBy-dedup order-total {E = tie} (λ x y. refl) vs s) (any_once is_null vs ∙ n)
+
+-- a value that is below another is not above it
+unturned : (x y : Datum) → order x y ≡ Less → is_lt (order y x) ≡ false
+unturned x y e = ap is_lt (order-total.antisymm y x ∙ ap ordering_reverse e)
+
+-- values that rise are sorted
+rising_sorted : (vs : List Datum) → IsStrictlySortedBy order vs → IsSorted order vs
+rising_sorted vs s k d from inside =
+    unturned (get_or vs k d) (get_or vs (k + 1) d) (Less-from_sorted order vs k (k + 1) d s (omega arith) inside)
+
+-- sorted values, of which one of each is kept, are sorted
+pub kept_sorted : (vs : List Datum) → IsSorted order vs → IsSorted order (dedup tie vs)
+kept_sorted vs s = rising_sorted (dedup tie vs) (IsStrictlySortedBy-dedup order-total {E = tie} (λ x y. refl) vs s)
 
 -- ---- lists of values in the code
 

@@ -5,6 +5,7 @@ pub mod Picked
 pub mod Chosen
 pub mod Distinct
 pub mod GivenLists
+pub mod InRange
 pub mod Looked
 pub mod SafePart
 pub mod Serving

@@ -10,7 +10,7 @@ use Rattle.tql_spec.specs.Expression.{Cond, passes}
 use Rattle.tql_spec.specs.Query.{keep}
 use Rattle.tql_spec.proofs.Members.{by_bool}
 use Rattle.tql_plan_laws.specs.Conjuncts.{meets}
-use Rattle.tql_store_index.specs.Basis.{Sought, is_looked_at}
+use Rattle.tql_store_index.specs.Basis.{is_looked_at}
 use Rattle.tql_plan_access.specs.Alternatives.{AlternativesAreEnough, has_any}
 use Rattle.tql_plan_access.specs.Access.{IsRow, LookingIsEnough, SafePartDecides, Serves, completed, safe_part}
 
@@ -49,7 +49,7 @@ module _ (law : SafePartDecides) (system : Option System) (period : Option (ℕ 
       ∙ sym (ap (λ b. kept_if (completed system v) b (keep conds (map (completed system) vs))) (f refl)
       ∙ dropped (completed system v) (keep conds (map (completed system) vs)))
 
-  seen_same : (vs : List Version) → All (λ v. IsRow period width (completed system v)) vs
+  pub seen_same : (vs : List Version) → All (λ v. IsRow period width (completed system v)) vs
       → keep conds (map (completed system) (filter is_seen vs)) ≡ keep conds (map (completed system) vs)
   seen_same [] h = refl
   seen_same (v ∷ vs) h =

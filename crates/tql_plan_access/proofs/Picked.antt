@@ -1,28 +1,25 @@
 -- Choices of a column's values: what they are, and that a row that meets one has one of the values.
-use Rattle.std.proofs.Common.{◌≡◌, ◌∙◌, refl, sym, ap, subst, ℕ, ◌<◌, Bool, true, false, ◌&&◌, cond, List, [], ◌∷◌}
-use Rattle.std.proofs.Common.{map, length, get_or, inl, inr, arith}
-use Rattle.std.specs.Prelude.{◌⊎◌, ◌||◌, ℤ, not, nat_lt, Option, Some, None, is_some, option_map, IfSome}
+use Rattle.std.proofs.Common.{◌≡◌, ◌∙◌, refl, sym, ap, subst, ℕ, ◌<◌, Bool, true, false, ◌&&◌, List, [], ◌∷◌}
+use Rattle.std.proofs.Common.{length, get_or, inl, inr, arith}
+use Rattle.std.specs.Prelude.{◌⊎◌, ◌||◌, ℤ, not, nat_lt, Option, Some, None, is_some, option_map}
 use Rattle.std.specs.List.{find, list_all, list_any}
 use Rattle.std.proofs.lemmas.Bool.{and_parts}
 use Rattle.std.proofs.lemmas.Bool.Decides.{nat_tests}
 use Rattle.tql_spec.specs.Datum.{Datum, Row}
-use Rattle.tql_spec.specs.Truth.{Truth, False, Unknown, True, or, is_true}
+use Rattle.tql_spec.specs.Truth.{Truth, False, Unknown, True, or}
 use Rattle.tql_spec.specs.Definition.{TableDef, cell, with_generated}
 use Rattle.tql_spec.specs.Binding.{is_generated}
-use Rattle.tql_spec.specs.Creation.{has_number}
 use Rattle.tql_spec.specs.Expression.{Cond, Compare, IsNull, Related, ContainsPoint, Not, And, Or, both}
 use Rattle.tql_spec.specs.Expression.{judge}
-use Rattle.tql_spec.proofs.Members.{by_bool}
 use Rattle.tql_catalog.specs.Defined.{IsDefinition}
 use Rattle.tql_catalog.specs.Rows.{IsStoredAt, are_assignable, numbers_repeat}
 use Rattle.tql_catalog.specs.Sought.{sought_columns}
 use Rattle.tql_plan_laws.specs.Conjuncts.{is_sure, meets}
-use Rattle.tql_plan_laws.specs.Constants.{ValuesAreMet, first_said, value_in, value_of}
+use Rattle.tql_plan_laws.specs.Constants.{ValuesAreMet, value_of}
 use Rattle.tql_plan_laws.specs.Equalities.{agree, or_else}
-use Rattle.tql_store_index.specs.Tuple.{is_at}
 use Rattle.tql_plan_access.specs.Access.{IsRow, period_columns, safe_part}
 use Rattle.tql_plan_access.specs.Alternatives.{AreChosenBy, ServesAny, has_any, values_of}
-use Rattle.tql_plan_access.specs.Choices.{agrees_if, choice_by, choice_in, chooses, is_choice, is_chosen, is_equated}
+use Rattle.tql_plan_access.specs.Choices.{agrees_if, choice_in, chooses, is_choice, is_chosen, is_equated}
 use Rattle.tql_plan_access.specs.declared.alternatives.Alternatives.{Alternatives}
 use Rattle.tql_plan_access.proofs.ByKey.{stored_long}
 use Rattle.tql_plan_access.proofs.GivenLists.{all_assignable, first_is}
@@ -78,7 +75,7 @@ or_parts false b true d h f g = (refl, g h)
 or_parts false b false d h f g = absurd (cc)
 
 -- both parts of a choice are choices
-choice_parts : (i : ℕ) (c d : Cond) → is_choice i (Or c d) ≡ true → (is_choice i c ≡ true) × (is_choice i d ≡ true)
+pub choice_parts : (i : ℕ) (c d : Cond) → is_choice i (Or c d) ≡ true → (is_choice i c ≡ true) × (is_choice i d ≡ true)
 choice_parts i c d h =
     or_parts (is_equated i c) (is_choice i d) (is_choice i c) (is_equated i d) h (equated_choice i c)
     (equated_choice i d)

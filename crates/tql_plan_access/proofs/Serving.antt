@@ -15,14 +15,18 @@ use Rattle.tql_catalog.specs.Defined.{IsDefinition}
 use Rattle.tql_catalog.specs.Sought.{sought_columns}
 use Rattle.tql_plan_laws.specs.Conjuncts.{meets}
 use Rattle.tql_plan_laws.specs.Constants.{PointsAreMet, StretchesAreMet, ValuesAreMet}
-use Rattle.tql_store_index.specs.Basis.{Sought, With, WithIn, Holding, Sharing, is_looked_at, is_sought}
+use Rattle.tql_store_index.specs.Basis.{Sought, With, WithIn, Holding, Sharing, Between, is_between}
+use Rattle.tql_store_index.specs.Basis.{is_looked_at, is_sought}
 use Rattle.tql_store_index.specs.Tuple.{is_at}
 use Rattle.tql_plan_access.specs.Access.{IsRow, ServesChange, ServesTable, first_given, is_within}
 use Rattle.tql_plan_access.specs.Access.{narrowed, period_columns, period_given, safe_part, value_or_null, with_in}
-use Rattle.tql_plan_access.specs.Said.{IsPortionBy, IsSaidBy, IsSoughtBy, IsSoughtFor, IsSoughtForChange}
-use Rattle.tql_plan_access.proofs.ByKey.{given_found}
+use Rattle.tql_plan_access.specs.Ranges.{range_given}
+use Rattle.tql_plan_access.specs.Said.{IsOrRanged, IsPortionBy, IsRangedBy, IsSaidBy, IsSoughtBy, IsSoughtFor}
+use Rattle.tql_plan_access.specs.Said.{IsSoughtForChange}
+use Rattle.tql_plan_access.proofs.ByKey.{given_found, stored_long}
 use Rattle.tql_plan_access.proofs.ByPeriod.{portion_found, said_found}
 use Rattle.tql_plan_access.proofs.GivenLists.{given_first}
+use Rattle.tql_plan_access.proofs.InRange.{ranges_met}
 
 -- a property of a result's value implies a weaker property
 pub ok_then : {A E : Type 0} {P Q : A → Type 0} (result : Result A E) → ((x : A) → P x → Q x) → IfOk result P
@@ -54,6 +58,7 @@ pub narrowed_found : (columns : List ℕ) (tuple : List Datum) (said : Option So
 narrowed_found columns tuple None cells at seen = at
 narrowed_found columns tuple (Some (With other values)) cells at seen = at
 narrowed_found columns tuple (Some (WithIn other values start end x)) cells at seen = at
+narrowed_found columns tuple (Some (Between column low high)) cells at seen = at
 narrowed_found columns tuple (Some (Sharing start end x)) cells at seen =
     and_from (is_at columns tuple cells) (share_a_point (period_between cells start end) x) at seen
 narrowed_found columns tuple (Some (Holding start end p)) cells at seen = either (int_lt p (pos (2 ^ 63 - 1)))
@@ -73,10 +78,11 @@ narrowed_found columns tuple (Some (Holding start end p)) cells at seen = either
 
 module _ (d : TableDef) (conds : List Cond) where
   -- a lookup that meets a predicate of the period's lookup meets a weaker one
-  pub by_weaker : (first : Option (List ℕ)) (P Q : Option Sought → Type 0) → ((o : Option Sought) → P o → Q o)
-      → (o : Option Sought) → IsSoughtBy d conds first P o → IsSoughtBy d conds first Q o
-  by_weaker None P Q h o s = h o s
-  by_weaker (Some columns) P Q h o s = record {
+  pub by_weaker : (is_current : Bool) (first : Option (List ℕ)) (P Q : Option Sought → Type 0)
+      → ((o : Option Sought) → P o → Q o) → (o : Option Sought) → IsSoughtBy d conds is_current first P o
+      → IsSoughtBy d conds is_current first Q o
+  by_weaker is_current None P Q h o s = record { said = s.said; by = h s.said s.by; is = s.is }
+  by_weaker is_current (Some columns) P Q h o s = record {
     stored = s.stored;
     there = s.there;
     said = s.said;
@@ -84,15 +90,36 @@ module _ (d : TableDef) (conds : List Cond) where
     is = s.is;
   }
 
+  -- rows that meet the conjuncts are in their range
+  ranged_found : IsDefinition d → (first : Option (List ℕ)) (o : Option Sought) → IsRangedBy d conds first o
+      → (cells : Row) (start end : ℤ) → length (with_generated d.system cells start end) ≡ length d.columns
+      → meets conds (with_generated d.system cells start end) ≡ true → is_looked_at o cells ≡ true
+  ranged_found right None o s cells start end wide m = ap (λ q. is_looked_at q cells) s
+  ranged_found right (Some columns) o s cells start end wide m =
+      ap (λ q. is_looked_at q cells) s.is
+      ∙ subst (λ x. is_between s.range.0 s.range.1 x ≡ true)
+      (s.there cells start end (stored_long d right cells start end wide))
+      (ranges_met conds (with_generated d.system cells start end) m s.column s.range.0 s.range.1 s.limited)
+
+  or_ranged_found : IsDefinition d → (is_current : Bool) (said o : Option Sought) → IsOrRanged d conds is_current said o
+      → (cells : Row) (start end : ℤ) → length (with_generated d.system cells start end) ≡ length d.columns
+      → meets conds (with_generated d.system cells start end) ≡ true → is_looked_at said cells ≡ true
+      → is_looked_at o cells ≡ true
+  or_ranged_found right is_current None o s cells start end wide m seen =
+      ranged_found right (range_given d is_current conds) o s cells start end wide m
+  or_ranged_found right is_current (Some said) o s cells start end wide m seen =
+      ap (λ q. is_looked_at q cells) s ∙ seen
+
   -- rows that meet the conjuncts and that the period's lookup finds are looked at
-  sought_found : ValuesAreMet → IsDefinition d → (first : Option (List ℕ))
+  sought_found : ValuesAreMet → IsDefinition d → (is_current : Bool) (first : Option (List ℕ))
       → first_given conds (sought_columns d) ≡ first
-      → (IsSaid : Option Sought → Type 0) (o : Option Sought) → IsSoughtBy d conds first IsSaid o
+      → (IsSaid : Option Sought → Type 0) (o : Option Sought) → IsSoughtBy d conds is_current first IsSaid o
       → (cells : Row) (start end : ℤ) → length (with_generated d.system cells start end) ≡ length d.columns
       → meets conds (with_generated d.system cells start end) ≡ true
       → ((said : Option Sought) → IsSaid said → is_looked_at said cells ≡ true) → is_looked_at o cells ≡ true
-  sought_found law right None e IsSaid o s cells start end wide m seen = seen o s
-  sought_found law right (Some columns) e IsSaid o s cells start end wide m seen =
+  sought_found law right is_current None e IsSaid o s cells start end wide m seen =
+      or_ranged_found right is_current s.said o s.is cells start end wide m (seen s.said s.by)
+  sought_found law right is_current (Some columns) e IsSaid o s cells start end wide m seen =
       let tuple = map (value_or_null conds) columns in
       ap (λ q. is_looked_at q cells) s.is
       ∙ narrowed_found s.stored tuple s.said cells
@@ -103,12 +130,13 @@ module _ (d : TableDef) (conds : List Cond) where
   module _ (values : ValuesAreMet) (points : PointsAreMet) (stretches : StretchesAreMet) where
     -- rows that meet the conjuncts are looked at
     met_found : IsDefinition d → (is_current : Bool) (o : Option Sought)
-        → IsSoughtBy d conds (first_given conds (sought_columns d)) (IsSaidBy d conds (period_given d is_current)) o
+        → IsSoughtBy d conds is_current (first_given conds (sought_columns d))
+        (IsSaidBy d conds (period_given d is_current)) o
         → (cells : Row) (start end : ℤ)
         → IsRow (period_columns d) (length d.columns) (with_generated d.system cells start end)
         → meets conds (with_generated d.system cells start end) ≡ true → is_looked_at o cells ≡ true
     met_found right is_current o s cells start end r m =
-        sought_found values right (first_given conds (sought_columns d)) refl
+        sought_found values right is_current (first_given conds (sought_columns d)) refl
         (IsSaidBy d conds (period_given d is_current)) o s cells start end r.wide m (seen is_current)
       where
         seen : (b : Bool) (said : Option Sought) → IsSaidBy d conds (if b then d.application else None) said
@@ -119,7 +147,7 @@ module _ (d : TableDef) (conds : List Cond) where
 
     -- rows of a portion that meet the conjuncts are looked at
     portion_met : IsDefinition d → (portion : Period) (o : Option Sought)
-        → IsSoughtBy d conds (first_given conds (sought_columns d)) (IsPortionBy d portion d.application) o
+        → IsSoughtBy d conds true (first_given conds (sought_columns d)) (IsPortionBy d portion d.application) o
         → (cells : Row) (start end : ℤ)
         → IsRow (period_columns d) (length d.columns) (with_generated d.system cells start end)
         → is_within d (Some portion) (with_generated d.system cells start end) && meets conds
@@ -128,8 +156,8 @@ module _ (d : TableDef) (conds : List Cond) where
     portion_met right portion o s cells start end r m =
         let row = with_generated d.system cells start end in
         let parts = both (is_within d (Some portion) row) (meets conds row) m in
-        sought_found values right (first_given conds (sought_columns d)) refl (IsPortionBy d portion d.application) o s
-        cells start end r.wide parts.1
+        sought_found values right true (first_given conds (sought_columns d)) refl
+        (IsPortionBy d portion d.application) o s cells start end r.wide parts.1
         (λ said by. portion_found d right portion d.application refl said by cells start end r.wide parts.0)
 
 -- ---- for the safe part
@@ -137,11 +165,12 @@ module _ (d : TableDef) (conds : List Cond) where
 -- the lookup for the safe part of conjuncts is the lookup for the conjuncts
 pub sought_for : (d : TableDef) (conds : List Cond) (is_current : Bool) (part : List Cond)
     → part ≡ safe_part conds → (said : Option Sought) → IsSaidBy d part (period_given d is_current) said
-    → (o : Option Sought) → IsSoughtBy d part (first_given part (sought_columns d)) (λ q. q ≡ said) o
+    → (o : Option Sought) → IsSoughtBy d part is_current (first_given part (sought_columns d)) (λ q. q ≡ said) o
     → IsSoughtFor d conds is_current o
 sought_for d conds is_current part e said by o s =
-    subst (λ cs. IsSoughtBy d cs (first_given cs (sought_columns d)) (IsSaidBy d cs (period_given d is_current)) o) e
-    (by_weaker d part (first_given part (sought_columns d)) (λ q. q ≡ said)
+    subst (λ cs. IsSoughtBy d cs is_current (first_given cs (sought_columns d))
+    (IsSaidBy d cs (period_given d is_current)) o) e
+    (by_weaker d part is_current (first_given part (sought_columns d)) (λ q. q ≡ said)
     (IsSaidBy d part (period_given d is_current))
     (λ q k. subst (IsSaidBy d part (period_given d is_current)) (sym k) by) o s)
 

@@ -14,7 +14,7 @@ use Rattle.tql_catalog.specs.Sought.{sought_columns}
 use Rattle.tql_plan_laws.specs.Conjuncts.{meets}
 use Rattle.tql_plan_laws.specs.Constants.{ArePoints, point_in, stretch_in, value_in, tuple_in}
 use Rattle.tql_period.specs.Points.{points_of}
-use Rattle.tql_store_index.specs.Basis.{Sought, With, WithIn, Holding, Sharing, is_looked_at}
+use Rattle.tql_store_index.specs.Basis.{Sought, With, WithIn, Holding, Sharing, Between, is_looked_at}
 use Rattle.tql_plan_access.specs.declared.access.Manner.{Manner}
 use Rattle.tql_plan_access.specs.declared.access.Manner.TheVariants as manner
 
@@ -34,6 +34,7 @@ sought_by manner.Key columns tuple = Some (With columns tuple)
 sought_by (manner.KeyWithin start end period) columns tuple = Some (WithIn columns tuple start end (points_of period))
 sought_by (manner.Point start end point) columns tuple = Some (Holding start end point)
 sought_by (manner.Stretch start end stretch) columns tuple = Some (Sharing start end (points_of stretch))
+sought_by (manner.Range column low high) columns tuple = Some (Between column low high)
 
 -- the lookup of a manner that uses no key values
 abbrev pub sought_in : Manner → Option Sought

@@ -31,19 +31,25 @@ abbrev pub is_chosen : ℕ → Cond → Datum → Bool
 is_chosen i (Or c d) x = is_chosen i c x || is_chosen i d x
 is_chosen i c x = agrees_if x (value_of i c)
 
+-- whether the columns are a single one, which passes a test
+abbrev pub is_single_of : (ℕ → Bool) → List ℕ → Bool
+is_single_of test [] = false
+is_single_of test (i ∷ []) = test i
+is_single_of test (i ∷ j ∷ is) = false
+
 -- whether the columns are a single one, and a condition is a choice of its values
 abbrev pub chooses : Cond → List ℕ → Bool
-chooses c [] = false
-chooses c (i ∷ []) = is_choice i c
-chooses c (i ∷ j ∷ is) = false
+chooses c columns = is_single_of (λ i. is_choice i c) columns
 
 -- the lists of one of these columns each
 abbrev pub singles : List ℕ → List (List ℕ)
 singles columns = map (λ i. i ∷ []) columns
 
--- a condition chooses the same first list among these lists of columns as among the lists of one of these columns each
+-- for any test of a column, the first of these lists of columns that is a single one that passes it is the first of
+-- these columns that does
 abbrev pub FindsSame : List (List ℕ) → List ℕ → Type 0
-FindsSame lists columns = (c : Cond) → find (chooses c) (singles columns) ≡ find (chooses c) lists
+FindsSame lists columns =
+    (test : ℕ → Bool) → find (is_single_of test) (singles columns) ≡ find (is_single_of test) lists
 
 -- a condition, and the first key or else reference of a table whose only column it chooses
 abbrev pub choice_by : TableDef → Cond → Option (Cond × List ℕ)

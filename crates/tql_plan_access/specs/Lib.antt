@@ -1,4 +1,6 @@
 pub mod Access
-pub mod Said
 pub mod Choices
+pub mod Limits
+pub mod Ranges
+pub mod Said
 pub mod Alternatives

@@ -24,6 +24,7 @@ pub struct Alternatives<'a> {
     pub column: usize,
     pub values: Vec<View<'a>, Memory>,
     ghost distinct: { IsTrue (are_distinct (map datum_of_view values.items)) },
+    ghost sorted: { IsSorted order_of (map datum_of_view values.items) },
 }
 
 impl<'a> Drop for Alternatives<'a> {
@@ -79,7 +80,7 @@ fn parted<'a>(terms: &'a Terms, c: CondId, column: usize) -> Option<Parts<'a>>
 
 /// Whether a condition compares this column with a literal, or is the OR of such comparisons, nested to one side. A
 /// long list is followed by a loop.
-pub(crate) fn is_choice(terms: &Terms, c: CondId, column: usize) -> bool
+pub fn is_choice(terms: &Terms, c: CondId, column: usize) -> bool
     requires { HasCond terms.now c }
     ensures { result ≡ choice column (cond terms.now c) }
 {
@@ -153,6 +154,7 @@ fn drop_repeats(values: &mut Vec<View<'_>, Memory>)
 fn keep_distinct(values: &mut Vec<View<'_>, Memory>)
     requires { list_any is_null (map datum_of_view values.old.items) ≡ false }
     ensures distinct { IsTrue (are_distinct (map datum_of_view values.new.items)) }
+    ensures sorted { IsSorted order_of (map datum_of_view values.new.items) }
     ensures same { (p : Datum → Bool) → list_any p (map datum_of_view values.new.items)
         ≡ list_any p (map datum_of_view values.old.items) }
 {
@@ -162,7 +164,7 @@ fn keep_distinct(values: &mut Vec<View<'_>, Memory>)
 
 /// Returns the alternatives of a choice, with the number at which its column is stored. The only error is a refused
 /// allocation.
-pub(crate) fn alternatives_at<'a>(
+pub fn alternatives_at<'a>(
     memory: Memory,
     terms: &'a Terms,
     c: CondId,

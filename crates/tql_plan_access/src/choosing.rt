@@ -1,5 +1,5 @@
 //! The choice of a table's access path.
-ghost use Rattle.std.specs.Prelude.{◌≡◌, All, IfOk, map, option_map};
+ghost use Rattle.std.specs.Prelude.{◌≡◌, All, IfOk, map, option_map, true};
 ghost use Rattle.tql_catalog.specs.Defined.{IsDefinition};
 ghost use Rattle.tql_catalog.specs.Sought.{sought_columns};
 ghost use Rattle.tql_expr.specs.Meaning.{cond, HasCond};
@@ -9,6 +9,7 @@ ghost use Rattle.tql_plan_access.specs.Said.{IsPortionBy, IsSoughtBy, IsSoughtFo
 
 use crate::access::{Access, Manner};
 use crate::given::given_columns;
+use crate::ranges::or_ranged;
 use crate::safe::safe_conjuncts;
 use crate::said::{current_manner, portion_manner};
 use std::alloc::AllocError;
@@ -19,23 +20,28 @@ use tql_period::period::Period;
 use tql_plan_laws::constants_are_met;
 
 /// Returns a lookup by the first key, else by the first reference, whose columns are all given values by the conjuncts,
-/// narrowed to the period of `said`, if any. If there is none, the access path is `said` alone.
+/// narrowed to the period of `said`, if any. If there is none, the access path is `said` alone, or a lookup of current
+/// rows by a range of a single such column if `said` reads all rows.
 fn keyed<'a>(
     memory: Memory,
     definition: &TableDef,
     terms: &'a Terms,
     conjuncts: &[CondId],
+    is_current: bool,
     said: Manner,
 ) -> Result<Access<'a>, AllocError>
     requires { All (HasCond terms.now) conjuncts.now }
     ensures sought { IfOk result (λ a. IsSoughtBy definition.now (map (cond terms.now) conjuncts.now)
-        (first_given (map (cond terms.now) conjuncts.now) (sought_columns definition.now))
+        is_current (first_given (map (cond terms.now) conjuncts.now) (sought_columns definition.now))
         (λ o. o ≡ sought_in said) a) }
     ensures right { IfOk result (λ a. IsDefinition definition.now) }
 {
     match given_columns(memory, definition, terms, conjuncts)? {
         Some(columns) => Access::by_key(memory, definition, terms, conjuncts, columns, said),
-        None => Ok(Access::by_period(memory, said)),
+        None => {
+            let manner = or_ranged(memory, definition, terms, conjuncts, is_current, said)?;
+            Ok(Access::unkeyed(memory, manner))
+        }
     }
 }
 
@@ -43,7 +49,9 @@ fn keyed<'a>(
 /// are used; every row outside the path fails one of them. If they give a value to each column of a key, or else of a
 /// reference, the path looks up the first such key or reference. For current rows, the path is also restricted to the
 /// rows whose application period contains a constant point, or else overlaps a constant period, if a conjunct says so.
-/// Otherwise all rows are scanned. The only error is a refused allocation.
+/// Without any of these, if conjuncts limit the only column of a key, or else of a reference, by two literals of one
+/// kind, the path to current rows is the range between them. Otherwise all rows are scanned. The only error is a
+/// refused allocation.
 pub fn access<'a>(
     memory: Memory,
     definition: &TableDef,
@@ -59,7 +67,7 @@ pub fn access<'a>(
     constants_are_met();
     let decisive = safe_conjuncts(terms, conjuncts);
     let said = current_manner(definition, terms, decisive, is_current);
-    keyed(memory, definition, terms, decisive, said)
+    keyed(memory, definition, terms, decisive, is_current, said)
 }
 
 /// Returns the access path to the current rows that share a point with a portion, by key or reference where possible.
@@ -72,7 +80,7 @@ fn portion_access<'a>(
 ) -> Result<Access<'a>, AllocError>
     requires { All (HasCond terms.now) conjuncts.now }
     ensures sought { IfOk result (λ a. IsSoughtBy definition.now (safe_part (map (cond terms.now) conjuncts.now))
-        (key_given definition.now (map (cond terms.now) conjuncts.now))
+        true (key_given definition.now (map (cond terms.now) conjuncts.now))
         (IsPortionBy definition.now (points_of portion) definition.now.application) a) }
     ensures right { IsDefinition definition.now }
 {
@@ -82,6 +90,7 @@ fn portion_access<'a>(
         definition,
         terms,
         safe_conjuncts(terms, conjuncts),
+        true,
         said,
     )
 }

@@ -1,5 +1,5 @@
 //! Access paths: which rows of a table have to be looked at for a list of conjuncts. These are all rows, or those of a
-//! key, of a period, or of both.
+//! key, of a period, of both, or of a range of a key.
 #![tactic(auto)]
 
 pub mod access;
@@ -7,6 +7,8 @@ pub mod alternatives;
 pub mod choices;
 pub mod choosing;
 mod given;
+pub mod limits;
+mod ranges;
 pub mod safe;
 mod said;
 mod singles;

@@ -101,6 +101,17 @@ fn say_key(definition: &TableDef, stored: &[usize], words: &mut Words) -> Result
     say_columns(definition, stored, words)
 }
 
+/// Appends the key or the reference of a table of whose only column a lookup reads a range.
+fn say_range(definition: &TableDef, column: usize, words: &mut Words) -> Result<(), AllocError> {
+    let stored = slice::from_ref(&column);
+    words.push_str(if is_key(definition, stored) {
+        " by a range of its key"
+    } else {
+        " by a range of its reference"
+    })?;
+    say_columns(definition, stored, words)
+}
+
 /// Appends the application period of a table that a lookup uses.
 fn say_period(definition: &TableDef, means: &str, words: &mut Words) -> Result<(), AllocError> {
     words.push_str(means)?;
@@ -131,6 +142,7 @@ fn say_sought(
             say_period(definition, " by", words)?;
             words.push_str(" (OVERLAPS)")
         }
+        Some(Sought::Between(column, _, _)) => say_range(definition, column, words),
     }
 }
 

@@ -22,3 +22,4 @@ pub mod Pinning
 pub mod Questions
 pub mod Ends
 pub mod Looking
+pub mod Counting

@@ -105,7 +105,7 @@ removable-rows m h removed t all once = record {
 }
 
 -- a current version of the table is non-empty
-alive-current : (m : ℤ) (h : rows.TableModel) → InTurn m h → (k : ℕ) → k < length h.current
+pub alive-current : (m : ℤ) (h : rows.TableModel) → InTurn m h → (k : ℕ) → k < length h.current
     → is_current (at h.current k) ≡ true → alive (at h.current k) ≡ true
 alive-current m h t k l e =
     let ends = (Decides-int_eq (at h.current k).end high).0 e in let below = t.below in

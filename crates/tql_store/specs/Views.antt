@@ -1,16 +1,18 @@
 -- What the answers of a reading represent.
-use Rattle.std.specs.Prelude.{◌≡◌, ℕ, Bool, ◌&&◌, List, map, filter, count_by, nat_eq, Option, Some, if◌then◌else◌, All}
-use Rattle.std.specs.Prelude.{slice_get}
+use Rattle.std.specs.Prelude.{◌≡◌, ℕ, Bool, false, ◌&&◌, List, map, filter, length, count_by, nat_eq, Option, Some, All}
+use Rattle.std.specs.Prelude.{slice_get, if◌then◌else◌}
 use Rattle.tql_spec.specs.Bag.{SameBag}
 use Rattle.tql_spec.specs.Datum.{Row}
 use Rattle.tql_spec.specs.Definition as definition
+use Rattle.tql_spec.specs.History.{found as versions_found}
+use Rattle.tql_spec.specs.Horizon.{is_before}
 use Rattle.tql_versions.specs.Changes.{alive}
 use Rattle.tql_versions.specs.Readings.{asked, open_ones, where_open, version_shown as version_of}
 use Rattle.tql_versions.specs.declared.version.Version.{Version}
 use Rattle.tql_value.specs.When.{when_of}
 use Rattle.tql_value.specs.declared.when.When.{When}
 use Rattle.tql_value.specs.declared.when.When.TheVariants.{Now}
-use Rattle.tql_store.specs.Represents.{Answers, AnswersBy}
+use Rattle.tql_store.specs.Represents.{Answers, AnswersBy, Copies, Represents, Working, seen_by}
 use Rattle.tql_store.specs.StoreModel.{StoreModel, live, named}
 
 -- the id of an answer is that of its version
@@ -40,3 +42,10 @@ pub record AreRowsNow (h : StoreModel) (table : ℕ) (vs : List definition.Versi
   pub versions : SameBag (open_ones vs) (filter (asked Now) (live h table))
   pub ids : (id : ℕ) (v : definition.Version) → slice_get vs id ≡ Some v → named h table id ≡ Some v
   pub copies : Answers h table (when_of Now) (open_ones vs)
+
+-- the number of the current rows of a table, as many as the definitions find in the copies
+pub record CountsNow (h : StoreModel) (table n : ℕ) : Type 0 where
+  pub versions : n ≡ length (filter (asked Now) (live h table))
+  pub copies : is_before h.horizon (when_of Now) ≡ false → (copies : Copies) (working : Working)
+      → Represents h copies working
+      → n ≡ length (versions_found (when_of Now) (seen_by h.working copies working table))

@@ -20,7 +20,7 @@ ghost use Rattle.tql_store.specs.Pinned.{pinned};
 ghost use Rattle.tql_store.specs.TableSlots.{slot_at, is_brief};
 ghost use Rattle.tql_versions.specs.Readings.{version_shown as version_of, asked};
 ghost use Rattle.tql_versions.specs.Views.{versions_of};
-ghost use Rattle.tql_store.specs.Views.{AreRowsNow, Names, NamesOnce, IsFound, current_named};
+ghost use Rattle.tql_store.specs.Views.{AreRowsNow, CountsNow, Names, NamesOnce, IsFound, current_named};
 ghost use Rattle.tql_store.specs.Represents.{Represents, BeginCopies, ChangeReplaces, CommitAppends, ReplacesVersions};
 ghost use Rattle.tql_store.specs.Represents.{RollbackRestores, AddsTable, AddKeepsCopies, DropEmpties, Takes};
 ghost use Rattle.tql_store.specs.Represents.{Answers, PrunesCopies};
@@ -408,6 +408,15 @@ impl<I: IntervalIndex> Store<I> {
         ensures { AreRowsNow self.now table (versions_of result.now) }
     {
         self.rows[usize::from(table.number())].current()
+    }
+
+    /// Returns the number of current rows of a table if no version has to be read for it: unless the open transaction
+    /// has ended some. Allocates no memory.
+    pub fn count(&self, table: TableId) -> Option<usize>
+        requires { IsTrue (table_there self.now table) }
+        ensures { IfSome result (CountsNow self.now table) }
+    {
+        self.rows[usize::from(table.number())].count()
     }
 
     /// Returns the versions of a table that `when` selects and whose rows match the lookup.

@@ -1,15 +1,17 @@
 //! Index definitions, and the lookups that they serve: by column values, by period, or by both.
-ghost use Rattle.std.specs.Prelude.{◌≡◌, ◌↔◌, IsTrue, IfOk, option_map, map};
+ghost use Rattle.std.specs.Prelude.{◌≡◌, ◌↔◌, [], ◌∷◌, IsTrue, IfOk, option_map, map};
 ghost use Rattle.tql_spec.specs.Definition.{period_between, point_of as point_for};
 ghost use Rattle.tql_spec.specs.Period.{where_rising, share_a_point};
 ghost use Rattle.tql_period.specs.Points.{points_of};
 ghost use Rattle.tql_value.specs.Views.{datum_of_value, datum_of_view};
 ghost use Rattle.tql_index.specs.Spans.{span_of};
 ghost use Rattle.tql_store_index.specs.Basis.{basis_of, filed, in_values, sought_of, Serves, stands_by, is_sought};
+ghost use Rattle.tql_store_index.specs.Basis.{is_between as between};
 ghost use Rattle.tql_store_index.specs.Places.{fitting_if};
 
 use crate::tuple::{cell, group_of_row, has_values, placed_if};
 use std::alloc::AllocError;
+use std::slice;
 use tql_index::span::Span;
 use tql_memory::Memory;
 use tql_period::period::Period;
@@ -39,6 +41,9 @@ pub enum Sought<'a> {
     Holding(usize, usize, i64),
     /// Rows whose period, from the first column to the second, shares a point with this one.
     Sharing(usize, usize, Period),
+    /// Rows with a number, a day or a moment in this column that is from the first number to the second, both included
+    /// (numbers, days or microseconds since 1970-01-01).
+    Between(usize, i64, i64),
 }
 
 /// Returns a day or moment as a number of days or microseconds since 1970-01-01; 0 for any other value.
@@ -66,6 +71,25 @@ fn shares(start: usize, end: usize, row: &[Value], other: Period) -> bool
     match period_of_row(start, end, row) {
         Some(period) => period.shares_a_point(other),
         None => false,
+    }
+}
+
+/// Whether this column is the only one of the list.
+fn is_only(columns: &[usize], column: usize) -> bool
+    ensures { IsTrue result ↔ (columns.now ≡ column ∷ []) }
+{
+    columns == slice::from_ref(&column)
+}
+
+/// Whether a value is a number, a day or a moment from `low` to `high`, both included.
+fn is_between(value: View<'_>, low: i64, high: i64) -> bool
+    ensures { result ≡ between low high (datum_of_view value.entry) }
+{
+    match value {
+        View::Int(number) => low <= number && number <= high,
+        View::Day(day) => low <= day && day <= high,
+        View::Moment(moment) => low <= moment && moment <= high,
+        View::Null | View::Text(_) => false,
     }
 }
 
@@ -153,6 +177,13 @@ impl Basis {
             (Basis::Period(start, end), Sought::Sharing(from, to, _)) => {
                 *start == from && *end == to
             }
+            (Basis::Values(columns), Sought::Between(column, _, _)) => is_only(columns, column),
+            (Basis::ValuesIn(columns, _, _), Sought::Between(column, _, _)) => {
+                is_only(columns, column)
+            }
+            (Basis::ValuesDuring(columns), Sought::Between(column, _, _)) => {
+                is_only(columns, column)
+            }
             _ => false,
         }
     }
@@ -173,6 +204,7 @@ impl Sought<'_> {
                 None => false,
             },
             Sought::Sharing(start, end, other) => shares(start, end, row, other),
+            Sought::Between(column, low, high) => is_between(cell(row, column), low, high),
         }
     }
 }

@@ -145,6 +145,7 @@ impl<I: IntervalIndex> ValueIndex<I> {
             }
             Sought::Holding(_, _, point) => self.index.stab(point),
             Sought::Sharing(_, _, period) => self.index.sharing(Span::of(period)),
+            Sought::Between(_, low, high) => self.index.in_groups(low, high),
         }
     }
 

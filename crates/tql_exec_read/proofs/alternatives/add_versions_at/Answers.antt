@@ -1,5 +1,5 @@
 -- The versions that are added are those with the value.
-use Rattle.std.proofs.Common.{rules, ◌≡◌, [], ◌∷◌, ℕ, List, ap, filter, map, subst}
+use Rattle.std.proofs.Common.{rules, ◌≡◌, [], ◌∷◌, ℕ, List, filter, map, subst}
 use Rattle.tql_spec.specs.Bag.{SameBag}
 use Rattle.tql_spec.specs.Datum.{Datum}
 use Rattle.tql_spec.specs.Definition.{Version}

@@ -18,3 +18,10 @@ returns-clause-rows g c copies working r =
     subst (λ (xs : List Row). SameBag xs (bags_in c.args.snapshot.now copies working (source_of c.args.source))) (sym e)
     (same-map (completed (generated c.args.source.system))
     (c.in_ok-versions.ensures.copies c.requires.within copies working r))
+
+-- the same for the current rows
+pub returns-in-Some-clause-rows : goal.returns-in-Some-clause-rows
+returns-in-Some-clause-rows g c copies working r =
+    subst (λ (xs : List Row). SameBag xs (bags_in c.args.snapshot.now copies working (source_of c.args.source)))
+    (sym c.in_ok-rows.ensures)
+    (same-map (completed (generated c.args.source.system)) (c.in-Some.ensures copies working r))

@@ -3,6 +3,7 @@ use Rattle.std.proofs.Common.{List, filter, map, subst}
 use Rattle.tql_spec.specs.Bag.{SameBag}
 use Rattle.tql_spec.specs.Definition.{Version}
 use Rattle.tql_spec.specs.Query.{keep}
+use Rattle.tql_spec.proofs.Bags.{same-map}
 use Rattle.tql_expr.specs.Generated.{generated}
 use Rattle.tql_expr.specs.Meaning.{cond}
 use Rattle.tql_store_index.specs.Basis.{is_looked_at}
@@ -38,5 +39,6 @@ returns-in-None-Some g c copies working r wide =
     let rows = map (completed (generated c.args.source.system)) (open_ones (versions_of c.in-None-Some.versions.now)) in
     let all = bags_in c.args.snapshot.now copies working (source_of c.args.source) in
     regiven (λ v. v.items) (keep conds rows) (keep conds all) c.passing_open.result
-    (kept_same c.joins_keep_no_order.ensures conds rows all (c.in-None-Some.ensures' copies working r))
+    (kept_same c.joins_keep_no_order.ensures conds rows all
+    (same-map (completed (generated c.args.source.system)) (c.in-None-Some.ensures' copies working r)))
     (given (λ v. v.items) (keep conds rows) c.passing_open.result c.passing_open.ensures)

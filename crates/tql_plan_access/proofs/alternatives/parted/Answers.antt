@@ -1,7 +1,6 @@
 use Rattle.std.proofs.Common.{◌∙◌, ap, sym}
 use Rattle.tql_expr.specs.Meaning.{cond}
 use Rattle.tql_expr.specs.Trees.{Term, cond_of}
-use Rattle.tql_expr.specs.declared.terms.CondId.{CondId}
 use Rattle.tql_value.specs.Views.{datum_of_view}
 use Rattle.tql_plan_access.specs.Choices.{is_chosen}
 use Rattle.tql_plan_access.proofs.Picked.{second_chosen}

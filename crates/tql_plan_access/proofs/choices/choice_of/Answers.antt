@@ -3,7 +3,7 @@ use Rattle.std.proofs.lemmas.List.{drop_all}
 use Rattle.std.specs.Prelude.{option_map, slice_index_or}
 use Rattle.std.specs.List.{find}
 use Rattle.tql_expr.specs.Meaning.{cond}
-use Rattle.tql_plan_access.specs.Choices.{chooses, singles}
+use Rattle.tql_plan_access.specs.Choices.{chooses, is_choice, singles}
 use Rattle.tql_plan_access.proofs.OneColumn.{first_single}
 use Rattle.tql_plan_access.proofs.choices.choice_of.Goals as goal
 
@@ -16,7 +16,7 @@ returns-then-is_choice-clause-choice c =
     let given : chooses chosen (slice_index_or items i 0 ∷ []) ≡ true = sym c.if-is_choice.ensures in
     ap (option_map (λ is. (chosen, is)))
     (sym (first_single (chooses chosen) items i inside given) ∙ c.loop-column.invariant
-    ∙ c.args.singles.now.finds chosen)
+    ∙ c.args.singles.now.finds (λ i. is_choice i chosen))
 
 pub returns-clause-choice : goal.returns-clause-choice
 returns-clause-choice c =
@@ -25,4 +25,4 @@ returns-clause-choice c =
     ap (option_map (λ is. (chosen, is)))
     (ap (λ ks. find (chooses chosen) (singles ks))
     (sym (drop_all c.loop-column.column-index items c.loop-column-test.false))
-    ∙ c.loop-column.invariant ∙ c.args.singles.now.finds chosen)
+    ∙ c.loop-column.invariant ∙ c.args.singles.now.finds (λ i. is_choice i chosen))

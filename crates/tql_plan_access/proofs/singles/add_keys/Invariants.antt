@@ -1,5 +1,4 @@
 use Rattle.std.proofs.Common.{◌++◌, List, ℕ, map, take}
-use Rattle.tql_spec.specs.Definition.{Key}
 use Rattle.tql_catalog.specs.Definitions.{key_of}
 use Rattle.tql_catalog.specs.declared.constraint.Key.{Key as Kept}
 use Rattle.tql_plan_access.specs.Choices.{FindsSame}

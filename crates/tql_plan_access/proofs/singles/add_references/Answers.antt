@@ -1,4 +1,4 @@
-use Rattle.std.proofs.Common.{◌≡◌, ◌++◌, ◌∷◌, [], ap, subst, List, ℕ, map, take, ◌<◌, length, rules, ◌∙◌}
+use Rattle.std.proofs.Common.{◌++◌, ◌∷◌, [], ap, subst, List, ℕ, map, take, ◌<◌, length, rules, ◌∙◌}
 use Rattle.std.proofs.lemmas.List.{take_all}
 use Rattle.tql_spec.specs.Definition.{Reference}
 use Rattle.tql_catalog.specs.Definitions.{reference_of}

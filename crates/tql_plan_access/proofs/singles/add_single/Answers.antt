@@ -1,4 +1,4 @@
-use Rattle.std.proofs.Common.{◌≡◌, ◌++◌, ◌∷◌, [], sym, subst, List, ℕ}
+use Rattle.std.proofs.Common.{◌++◌, ◌∷◌, [], sym, subst, List, ℕ}
 use Rattle.std.specs.Prelude.{OnOk}
 use Rattle.tql_plan_access.specs.Choices.{FindsSame}
 use Rattle.tql_plan_access.proofs.OneColumn.{one_of, other_more}

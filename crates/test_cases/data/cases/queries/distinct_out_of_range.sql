@@ -1,0 +1,30 @@
+-- cases: in-turn
+-- An item of DISTINCT is evaluated on each row that remains, also where its result would be dropped, and on no row that WHERE or HAVING drops. By
+-- hand from docs/LANGUAGE.md.
+CREATE TABLE t (k INTEGER, v INTEGER, x VARCHAR(2));
+INSERT INTO t VALUES (1, 5, 'a'), (2, 5, 'a'), (3, 9223372036854775807, 'a'), (4, NULL, NULL);
+SELECT DISTINCT x FROM t;
+SELECT DISTINCT v + 1 FROM t;
+SELECT DISTINCT v + 1 FROM t WHERE k <> 3;
+SELECT DISTINCT v - 1 FROM t;
+SELECT DISTINCT x, v + 1 FROM t WHERE x = 'a';
+SELECT DISTINCT v + 1 FROM t WHERE v < 9;
+SELECT DISTINCT 0 * (v + 1) FROM t;
+SELECT DISTINCT 0 * v, x FROM t;
+SELECT DISTINCT 1, v + 1 FROM t WHERE k > 3;
+SELECT DISTINCT v + v FROM t ORDER BY 1 DESC;
+SELECT DISTINCT v FROM t WHERE v + 1 > 0;
+SELECT DISTINCT v FROM t WHERE k < 3 AND v + 1 > 0;
+SELECT DISTINCT a.v + 1 FROM t a, t b WHERE a.k = 1;
+SELECT DISTINCT a.v + b.v FROM t a, t b WHERE a.k < 3 AND b.k < 3;
+SELECT DISTINCT a.v + b.v FROM t a JOIN t b ON a.k = b.k;
+SELECT DISTINCT a.v + b.v FROM t a JOIN t b ON a.k = b.k WHERE b.v < 9;
+SELECT DISTINCT COUNT(*) FROM t GROUP BY v;
+SELECT DISTINCT SUM(v) FROM t GROUP BY x;
+SELECT DISTINCT SUM(v) FROM t GROUP BY x, k;
+SELECT DISTINCT SUM(v) + 1 FROM t GROUP BY x, k;
+SELECT DISTINCT SUM(v) + 1 FROM t GROUP BY x, k HAVING k < 3;
+SELECT DISTINCT MAX(v) - MIN(v) FROM t GROUP BY x;
+INSERT INTO t (v) SELECT DISTINCT v + 1 FROM t;
+INSERT INTO t (v) SELECT DISTINCT v + 1 FROM t WHERE k < 3;
+SELECT COUNT(*), SUM(v) FROM t WHERE k IS NULL;

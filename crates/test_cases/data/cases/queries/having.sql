@@ -1,0 +1,33 @@
+-- cases: in-turn
+-- HAVING takes its members from the left, each if all before it were TRUE. An aggregate out of range refuses where it is reached: not to the right of
+-- a member that is not TRUE of its group, and not in an item of a group that HAVING drops. By hand from docs/LANGUAGE.md.
+CREATE TABLE t (k INTEGER, v INTEGER, x VARCHAR(3));
+INSERT INTO t VALUES (1, 9223372036854775807, 'a'), (1, 1, 'b'), (2, 5, 'c'), (2, -5, NULL), (3, NULL, 'd'), (NULL, 7, NULL), (NULL, 9223372036854775807, 'e');
+SELECT k FROM t GROUP BY k HAVING SUM(v) > 0;
+SELECT k FROM t GROUP BY k HAVING k = 2 AND SUM(v) = 0;
+SELECT k FROM t GROUP BY k HAVING SUM(v) = 0 AND k = 2;
+SELECT k FROM t GROUP BY k HAVING k = 2 OR SUM(v) = 0;
+SELECT k FROM t GROUP BY k HAVING NOT (k <> 2 AND SUM(v) = 0);
+SELECT k, SUM(v) FROM t GROUP BY k HAVING COUNT(*) = 1;
+SELECT k, SUM(v) FROM t GROUP BY k HAVING k > 1;
+SELECT k, SUM(v) FROM t GROUP BY k HAVING k <= 1;
+SELECT k, SUM(v) FROM t GROUP BY k HAVING k IS NULL;
+SELECT k FROM t GROUP BY k HAVING COUNT(*) = 2 AND MIN(v) < 0 AND SUM(v) + 1 > 0;
+SELECT k FROM t GROUP BY k HAVING MAX(v) + 1 > 0;
+SELECT k FROM t GROUP BY k HAVING MAX(v) < 9 AND MAX(v) + 1 > 0;
+SELECT k, MAX(v) + 1 FROM t GROUP BY k HAVING MAX(v) < 9;
+SELECT k, COUNT(v) FROM t GROUP BY k HAVING NOT SUM(v + 1) > 0;
+SELECT k, SUM(v + 1) FROM t WHERE v < 9 GROUP BY k HAVING SUM(v + 1) > 1;
+SELECT k FROM t GROUP BY k HAVING SUM(v) IS NULL;
+SELECT k FROM t WHERE k > 1 GROUP BY k HAVING SUM(v) IS NULL;
+SELECT k FROM t GROUP BY k HAVING k = 2 AND 9223372036854775807 + k > 0;
+SELECT k FROM t GROUP BY k HAVING k < 0 AND 9223372036854775807 + k > 0;
+SELECT k FROM t GROUP BY k HAVING 9223372036854775807 + k > 0 AND k < 0;
+SELECT SUM(v) FROM t HAVING COUNT(*) > 100;
+SELECT SUM(v) FROM t HAVING COUNT(*) > 6;
+SELECT COUNT(*) FROM t HAVING SUM(v) > 0 AND COUNT(*) > 100;
+SELECT COUNT(*) FROM t HAVING COUNT(*) > 100 AND SUM(v) > 0;
+SELECT COUNT(*) FROM t HAVING MIN(x) = 'a' AND MAX(x) = 'e' AND COUNT(x) = 5;
+SELECT k, COUNT(*) FROM t GROUP BY k HAVING MIN(x) = MAX(x) ORDER BY k DESC;
+SELECT k FROM t GROUP BY k HAVING v > 0;
+SELECT k FROM t GROUP BY k HAVING COUNT(*) = 'a';

@@ -1,0 +1,22 @@
+-- cases: in-turn
+-- MIN and MAX of texts by their bytes, of days and of moments, in groups, in HAVING and of no values. By hand from docs/LANGUAGE.md.
+CREATE TABLE t (k INTEGER, x VARCHAR(9), d DATE, m TIMESTAMP);
+INSERT INTO t VALUES (1, 'a', DATE '2011-01-02', TIMESTAMP '2011-01-01 00:00:00.000001'), (1, 'A', DATE '2011-01-01', TIMESTAMP '2011-01-01 00:00:00'),
+  (1, 'ab', NULL, NULL), (2, '', DATE '9999-12-31', TIMESTAMP '9999-12-31 23:59:59.999999'), (2, 'z', DATE '0001-01-01', TIMESTAMP '0001-01-01 00:00:00'),
+  (2, 'é', NULL, NULL), (3, NULL, NULL, NULL), (NULL, 'it''s', DATE '2011-01-01', NULL), (NULL, 'it', NULL, TIMESTAMP '2011-01-01 00:00:00');
+SELECT MIN(x), MAX(x), COUNT(x) FROM t;
+SELECT MIN(d), MAX(d), MIN(m), MAX(m) FROM t;
+SELECT k, MIN(x), MAX(x) FROM t GROUP BY k;
+SELECT k, MIN(d), MAX(m) FROM t GROUP BY k;
+SELECT k FROM t GROUP BY k HAVING MIN(x) = '';
+SELECT k FROM t GROUP BY k HAVING MAX(x) < 'b';
+SELECT k FROM t GROUP BY k HAVING NOT MAX(x) < 'b';
+SELECT k FROM t GROUP BY k HAVING MAX(d) = DATE '2011-01-02' AND MIN(m) >= TIMESTAMP '2011-01-01 00:00:00';
+SELECT k FROM t GROUP BY k HAVING MIN(x) IS NULL;
+SELECT k FROM t GROUP BY k HAVING MIN(x) IN ('it', '', 'q');
+SELECT MIN(x), MAX(x) FROM t WHERE x > 'a';
+SELECT MIN(x), MAX(x) FROM t WHERE x < '';
+SELECT DISTINCT MIN(d) FROM t GROUP BY k;
+SELECT MIN(x) + 1 FROM t;
+SELECT SUM(d) FROM t;
+SELECT MIN(a.x), MAX(b.x) FROM t a, t b WHERE a.k = 1 AND b.k = 2;

@@ -1,0 +1,12 @@
+-- One more row.
+use Rattle.std.specs.Prelude.{map}
+use Rattle.tql_expr.specs.Meaning.{cond, expr}
+use Rattle.tql_exec_join.specs.Tuples.{tuple_row}
+use Rattle.tql_exec_group.proofs.Repeats.{distinct_if}
+use Rattle.tql_exec_group.proofs.distinct.DistinctSink.take.Goals as goal
+
+pub returns : goal.returns
+returns c =
+    let t = c.args.self.now.terms.now in
+    distinct_if (map (cond t) c.args.self.now.having.now) (map (expr t) c.args.self.now.items.now)
+    (tuple_row c.args.row.now) c.args.state.now _ c.put_scope.result c.put_scope.ensures

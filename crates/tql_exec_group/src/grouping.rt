@@ -1,0 +1,361 @@
+//! GROUP BY, HAVING and the select list of a grouped query, as a sink: each row is folded into the accumulators of its
+//! group when it is handed over, so no list of the rows is kept. A group keeps its cells in the grouping columns and
+//! one accumulator for each aggregate of HAVING and the items.
+ghost use Rattle.std.specs.Prelude.{◌≡◌, ◌++◌, ◌∷◌, [], All, IfErr, IfOk, List, map, MatchResult, OnOk, slice_get};
+ghost use Rattle.std.specs.Prelude.{Some};
+ghost use Rattle.tql_spec.specs.Datum.{Row};
+ghost use Rattle.tql_spec.specs.Query.{cells_at};
+ghost use Rattle.tql_expr.specs.Meaning.{HasOperand};
+ghost use Rattle.tql_expr.specs.declared.terms.Terms.{Terms as CodeTerms};
+ghost use Rattle.tql_exec_join.specs.Tuples.{tuple_row};
+ghost use Rattle.tql_exec_group.specs.Folded.{HaveFolded};
+ghost use Rattle.tql_exec_group.specs.Begun.{BeginsGroup, TakesAt};
+ghost use Rattle.tql_exec_numbered.specs.Numbered.{with_row};
+ghost use Rattle.tql_exec_group.specs.Operands.{operands_prop as is_prop};
+
+use crate::fold::Accumulator;
+use crate::on_group::{Group, Results, add_shown, results_on};
+use crate::steps::{Steps, steps_of};
+use std::alloc::AllocError;
+use tql_exec_join::sink::Sink;
+use tql_exec_join::tuple::Tuple;
+use tql_exec_numbered::numbered::Numbered;
+use tql_expr::columns::Columns;
+use tql_expr::terms::{Aggregate, CondId, ExprId, Terms};
+use tql_memory::Memory;
+use tql_value::refusal::Refusal;
+use tql_value::value::Value;
+
+/// What is asked of the groups of a query: the columns of GROUP BY, HAVING and the items. Without columns all rows are
+/// one group, also of no rows.
+pub struct Grouping<'q> {
+    memory: Memory,
+    terms: &'q Terms,
+    columns: &'q [usize],
+    having: &'q [CondId],
+    items: &'q [ExprId],
+    steps: Steps,
+    ghost there: { All (HasOperand terms.now) steps.aggregates.items } by { is_prop terms.now steps.aggregates.items },
+}
+
+impl Drop for Grouping<'_> {
+    fn drop(self) {
+        let Grouping {
+            memory: _,
+            terms: _,
+            columns: _,
+            having: _,
+            items: _,
+            steps,
+        } = self;
+        drop(steps);
+    }
+}
+
+/// The groups of the rows so far, in the order of their first rows.
+pub struct Groups {
+    /// The cells of each group in the grouping columns.
+    keys: Numbered,
+    /// The accumulators of each group, one for each aggregate.
+    folds: Vec<Vec<Accumulator, Memory>, Memory>,
+}
+
+impl Drop for Groups {
+    fn drop(self) {
+        let Groups { keys, folds } = self;
+        drop(keys);
+        drop(folds);
+    }
+}
+
+/// Has each accumulator take one more row. The only error is a refused allocation.
+fn take_each(
+    memory: Memory,
+    terms: &Terms,
+    aggregates: &[Aggregate],
+    folds: &mut [Accumulator],
+    row: &Tuple<'_>,
+) -> Result<(), Refusal>
+    requires { All (HasOperand terms.now) aggregates.now }
+    ensures { MatchResult result
+        (λ _. (rows : List Row) → HaveFolded terms.now aggregates.now folds.old rows
+        → HaveFolded terms.now aggregates.now folds.new (rows ++ tuple_row row.now ∷ []))
+        (λ e. e ≡ Refusal.OutOfMemory) }
+{
+    for (place, fold) in folds.iter_mut().enumerate() {
+        let Some(which) = aggregates.get(place) else {
+            return Ok(());
+        };
+        fold.take(memory, terms, *which, row)?;
+    }
+    Ok(())
+}
+
+/// Has all accumulators of a group take one more row. The only error is a refused allocation.
+fn take_all(
+    memory: Memory,
+    terms: &Terms,
+    aggregates: &[Aggregate],
+    folds: &mut Vec<Accumulator, Memory>,
+    row: &Tuple<'_>,
+) -> Result<(), Refusal>
+    requires { All (HasOperand terms.now) aggregates.now }
+    ensures { MatchResult result
+        (λ _. (rows : List Row) → HaveFolded terms.now aggregates.now folds.old.items rows
+        → HaveFolded terms.now aggregates.now folds.new.items (rows ++ tuple_row row.now ∷ []))
+        (λ e. e ≡ Refusal.OutOfMemory) }
+{
+    take_each(memory, terms, aggregates, folds, row)
+}
+
+/// Returns accumulators of no rows, one for each aggregate. The only error is a refused allocation.
+fn begun(memory: Memory, aggregates: &[Aggregate]) -> Result<Vec<Accumulator, Memory>, AllocError>
+    ensures { IfOk result (λ v. (t : CodeTerms) → HaveFolded t aggregates.now v.items []) }
+{
+    let mut folds = Vec::with_capacity(memory, aggregates.len())?;
+    for _which in aggregates {
+        folds.push(Accumulator::new())?;
+    }
+    Ok(folds)
+}
+
+/// Returns the number of the only group of a query without grouping columns.
+fn only_number(keys: &mut Numbered) -> Result<usize, Refusal>
+    ensures keys { OnOk result (keys.new ≡ with_row keys.old []) }
+    ensures number { IfOk result (λ n. slice_get keys.new n ≡ Some []) }
+    ensures memory { IfErr result (λ e. e ≡ Refusal.OutOfMemory) }
+{
+    if keys.len() == 1 && keys.row(0).is_empty() {
+        return Ok(0);
+    }
+    keys.put(&[])
+}
+
+/// Returns the number of the group of a row, which is a new one behind the others if none has its cells. A row of a
+/// known group makes no allocation if it is grouped by at most three columns. The only error is a refused allocation.
+fn number_of(
+    memory: Memory,
+    keys: &mut Numbered,
+    columns: &[usize],
+    row: &Tuple<'_>,
+) -> Result<usize, Refusal>
+    ensures keys { OnOk result (keys.new ≡ with_row keys.old (cells_at columns.now (tuple_row row.now))) }
+    ensures number { IfOk result (λ n. slice_get keys.new n ≡ Some (cells_at columns.now (tuple_row row.now))) }
+    ensures memory { IfErr result (λ e. e ≡ Refusal.OutOfMemory) }
+{
+    match columns {
+        [] => only_number(keys),
+        [a] => keys.put(&[row.column(*a)]),
+        [a, b] => keys.put(&[row.column(*a), row.column(*b)]),
+        [a, b, c] => keys.put(&[row.column(*a), row.column(*b), row.column(*c)]),
+        _ => put_all(memory, keys, columns, row),
+    }
+}
+
+/// Returns the number of the group of a row, with any number of grouping columns.
+fn put_all(
+    memory: Memory,
+    keys: &mut Numbered,
+    columns: &[usize],
+    row: &Tuple<'_>,
+) -> Result<usize, Refusal>
+    ensures keys { OnOk result (keys.new ≡ with_row keys.old (cells_at columns.now (tuple_row row.now))) }
+    ensures number { IfOk result (λ n. slice_get keys.new n ≡ Some (cells_at columns.now (tuple_row row.now))) }
+    ensures memory { IfErr result (λ e. e ≡ Refusal.OutOfMemory) }
+{
+    let mut cells = Vec::with_capacity(memory, columns.len())?;
+    for column in columns {
+        cells.push(row.column(*column))?;
+    }
+    keys.put(&cells)
+}
+
+/// Adds accumulators of no rows if the number is that of a new group. The only error is a refused allocation.
+fn begin_group(
+    memory: Memory,
+    aggregates: &[Aggregate],
+    number: usize,
+    folds: &mut Vec<Vec<Accumulator, Memory>, Memory>,
+) -> Result<(), AllocError>
+    ensures { OnOk result (BeginsGroup aggregates.now number folds.old.items folds.new.items) }
+{
+    if number == folds.len() {
+        folds.push(begun(memory, aggregates)?)?;
+    }
+    Ok(())
+}
+
+/// Has the accumulators of a group take one more row. The only error is a refused allocation.
+fn take_at(
+    memory: Memory,
+    terms: &Terms,
+    aggregates: &[Aggregate],
+    number: usize,
+    folds: &mut Vec<Vec<Accumulator, Memory>, Memory>,
+    row: &Tuple<'_>,
+) -> Result<(), Refusal>
+    requires { All (HasOperand terms.now) aggregates.now }
+    ensures { MatchResult result
+        (λ _. TakesAt terms.now aggregates.now number folds.old.items folds.new.items (tuple_row row.now))
+        (λ e. e ≡ Refusal.OutOfMemory) }
+{
+    if number < folds.len() {
+        take_all(memory, terms, aggregates, &mut folds[number], row)?;
+    }
+    Ok(())
+}
+
+impl Sink for Grouping<'_> {
+    type State = Groups;
+
+    ghost use Rattle.std.specs.Prelude.{[], Some};
+    ghost use Rattle.tql_exec_group.specs.Grouped.{HasGrouped};
+
+    ghost knows = { λ g s rows. HasGrouped g.terms.now g.columns.now g.steps.aggregates.items s rows };
+
+    ghost gives = { λ g row. Some [] };
+
+    fn take(&self, state: &mut Groups, row: &Tuple<'_>) -> Result<(), Refusal> {
+        let aggregates = self.steps.aggregates.as_slice();
+        let number = number_of(self.memory, &mut state.keys, self.columns, row)?;
+        begin_group(self.memory, aggregates, number, &mut state.folds)?;
+        take_at(
+            self.memory,
+            self.terms,
+            aggregates,
+            number,
+            &mut state.folds,
+            row,
+        )
+    }
+}
+
+impl<'q> Grouping<'q> {
+    ghost use Rattle.std.specs.Prelude.{◌≡◌, ◌<◌, ◌∷◌, [], All, IfOk, length, List, map, MatchResult, Some};
+    ghost use Rattle.tql_spec.specs.Datum.{Row};
+    ghost use Rattle.tql_spec.specs.Query.{scopes};
+    ghost use Rattle.tql_spec.specs.QueryLaws.{NamesGroups, shown};
+    ghost use Rattle.tql_value.specs.Views.{row_of, rows_of};
+    ghost use Rattle.tql_expr.specs.Evaluated.{Evaluated, behind};
+    ghost use Rattle.tql_expr.specs.Meaning.{cond, expr, HasCond, HasExpr};
+    ghost use Rattle.tql_exec_group.specs.Folded.{HaveFolded};
+    ghost use Rattle.tql_exec_group.specs.Grouped.{scope_at, HasGrouped, IsGroupingOf, IsReady};
+    ghost use Rattle.tql_exec_group.specs.Results.{IsKeyOf};
+
+    /// Returns the sink of a grouped query. Its nodes are collected once. The only error is a refused allocation.
+    pub fn new(
+        memory: Memory,
+        terms: &'q Terms,
+        columns: &'q [usize],
+        having: &'q [CondId],
+        items: &'q [ExprId],
+    ) -> Result<Grouping<'q>, AllocError>
+        requires having { All (HasCond terms.now) having.now }
+        requires items { All (HasExpr terms.now) items.now }
+        ensures is { IfOk result (IsGroupingOf terms.now columns.now having.now items.now) }
+        ensures ready { IfOk result IsReady }
+    {
+        let steps = steps_of(memory, terms, having, items)?;
+        Ok(Grouping {
+            memory,
+            terms,
+            columns,
+            having,
+            items,
+            steps,
+        })
+    }
+
+    /// Returns the groups of no rows: one if there are no grouping columns, else none. The only error is a refused
+    /// allocation.
+    pub fn begin(&self) -> Result<Groups, Refusal>
+        ensures { MatchResult result
+            (λ s. HasGrouped self.now.terms.now self.now.columns.now self.now.steps.aggregates.items s [])
+            (λ e. e ≡ Refusal.OutOfMemory) }
+    {
+        let mut keys = Numbered::new(self.memory);
+        let mut folds: Vec<Vec<Accumulator, Memory>, Memory> = Vec::new(self.memory);
+        if self.columns.is_empty() {
+            keys.put(&[])?;
+            folds.push(begun(self.memory, &self.steps.aggregates)?)?;
+        }
+        Ok(Groups { keys, folds })
+    }
+
+    /// Adds the values of the items on a group if it passes HAVING. Refused if an evaluation that is reached is out of
+    /// range, or if an allocation is refused.
+    fn add_group(
+        &self,
+        key: &[Value],
+        folds: &[Accumulator],
+        made: &mut Vec<Vec<Value, Memory>, Memory>,
+    ) -> Result<(), Refusal>
+        requires ready { IsReady self.now }
+        requires named { NamesGroups (Some self.now.columns.now) (map (cond self.now.terms.now) self.now.having.now)
+            (map (expr self.now.terms.now) self.now.items.now) }
+        ensures { (rows : List Row) (row : Row)
+            → HaveFolded self.now.terms.now self.now.steps.aggregates.items folds.now rows
+            → IsKeyOf self.now.columns.now (row_of key.now) row
+            → Evaluated (λ _. rows_of made.new.items) (behind (rows_of made.old.items)
+            (shown (map (cond self.now.terms.now) self.now.having.now)
+            (map (expr self.now.terms.now) self.now.items.now)
+            (record { row = row; group = rows } ∷ []))) result }
+    {
+        let group = Group {
+            columns: self.columns,
+            key,
+            folds,
+        };
+        let found = results_on(self.memory, self.terms, &self.steps, group)?;
+        let results = Results {
+            from: self.steps.from,
+            found: &found,
+        };
+        add_shown(self.memory, results, self.having, self.items, made)
+    }
+
+    /// Adds the values of the items on the group with a number if it passes HAVING. Refused as in `add_group`.
+    fn add_numbered(
+        &self,
+        state: &Groups,
+        number: usize,
+        made: &mut Vec<Vec<Value, Memory>, Memory>,
+    ) -> Result<(), Refusal>
+        requires ready { IsReady self.now }
+        requires named { NamesGroups (Some self.now.columns.now) (map (cond self.now.terms.now) self.now.having.now)
+            (map (expr self.now.terms.now) self.now.items.now) }
+        requires within { number < length state.now.folds.items }
+        ensures { (rows : List Row)
+            → HasGrouped self.now.terms.now self.now.columns.now self.now.steps.aggregates.items state.now rows
+            → Evaluated (λ _. rows_of made.new.items) (behind (rows_of made.old.items)
+            (shown (map (cond self.now.terms.now) self.now.having.now)
+            (map (expr self.now.terms.now) self.now.items.now)
+            (scope_at self.now.columns.now rows number ∷ []))) result }
+    {
+        if number >= state.keys.len() {
+            return Ok(());
+        }
+        self.add_group(state.keys.row(number), &state.folds[number], made)
+    }
+
+    /// Returns the values of the items for each group that passes HAVING, in the order of the groups' first rows.
+    /// Refused if an evaluation that is reached is out of range, or if an allocation is refused: an aggregate that is
+    /// out of range refuses only if HAVING, from the left, or an item of a group that passes reaches it.
+    pub fn told(&self, state: &Groups) -> Result<Vec<Vec<Value, Memory>, Memory>, Refusal>
+        requires ready { IsReady self.now }
+        requires named { NamesGroups (Some self.now.columns.now) (map (cond self.now.terms.now) self.now.having.now)
+            (map (expr self.now.terms.now) self.now.items.now) }
+        ensures { (rows : List Row)
+            → HasGrouped self.now.terms.now self.now.columns.now self.now.steps.aggregates.items state.now rows
+            → Evaluated (λ v. rows_of v.items)
+            (shown (map (cond self.now.terms.now) self.now.having.now)
+            (map (expr self.now.terms.now) self.now.items.now)
+            (scopes (Some self.now.columns.now) rows)) result }
+    {
+        let mut made: Vec<Vec<Value, Memory>, Memory> = Vec::new(self.memory);
+        for number in 0..state.folds.len() {
+            self.add_numbered(state, number, &mut made)?;
+        }
+        Ok(made)
+    }
+}

@@ -1,0 +1,6 @@
+pub mod Slots
+pub mod Filed
+pub mod Known
+pub mod Searched
+pub mod Joined
+pub mod Placed

@@ -1,0 +1,6 @@
+//! Rows that are kept once each: the keys of GROUP BY, and the rows of DISTINCT.
+#![tactic(auto)]
+
+mod cells;
+pub mod numbered;
+mod runs;

@@ -1,0 +1,321 @@
+//! Rows of values that are kept once each, and numbered in the order in which they first came: the keys of groups, and
+//! the rows of a query with DISTINCT.
+//!
+//! A row is found by a table of slots, in which its digest says where to begin. It is sought in a few slots at most, up
+//! to the first empty one. Rows for which there was no empty slot among these stand in sorted runs, where they are
+//! found by halving. There are many of these only if many rows were chosen to have their slots in one place.
+ghost use Rattle.std.specs.Prelude.{◌≡◌, ◌≢◌, ◌+◌, ◌<◌, ◌^◌, ◌↔◌, IfNone, IfOk, IfSome, IsTrue, length, ℕ};
+ghost use Rattle.std.specs.Prelude.{false, slice_get, OnErr, OnOk, Some, true};
+ghost use Rattle.tql_value.specs.Views.{rows_of};
+ghost use Rattle.tql_exec_join.specs.Digest.{digest as digest_from};
+ghost use Rattle.tql_exec_numbered.specs.Numbered.{seen};
+ghost use Rattle.tql_exec_numbered.specs.Runs.{numbers_in, AreRuns};
+ghost use Rattle.tql_exec_numbered.specs.Slots.{first_place as place_of, free_from, is_kept, is_reached, AreFiled};
+
+use crate::cells::{agree, copied, digest_of, digest_of_values};
+use crate::runs::{add, find};
+use std::alloc::AllocError;
+use std::marker::Model;
+use tql_memory::Memory;
+use tql_value::refusal::Refusal;
+use tql_value::value::{Value, View};
+
+/// The number of slots in which a row is sought.
+const WINDOW: usize = 16;
+
+/// The number of slots of the smallest table.
+const FEWEST: usize = 64;
+
+/// Returns the place at which a digest is first sought, among this number of slots. If their number is a power of two,
+/// it is given by the high bits of the digest.
+#[inline(always)]
+fn first_place(size: usize, digest: u64) -> usize
+    ensures { result ≡ place_of size digest }
+{
+    ((digest >> 32) as usize) & size.saturating_sub(1)
+}
+
+/// Whether the row with a number is this row.
+#[inline(always)]
+fn agrees_at(rows: &[Vec<Value, Memory>], number: usize, row: &[View<'_>]) -> bool
+    ensures { IsTrue result ↔ (slice_get (rows_of rows.now) number ≡ Some (seen row.now)) }
+{
+    match rows.get(number) {
+        Some(values) => agree(values.as_slice(), row),
+        None => false,
+    }
+}
+
+/// Returns the number of this row, which has this digest, if it has a slot.
+#[inline(always)]
+fn met_number(
+    rows: &[Vec<Value, Memory>],
+    slots: &[usize],
+    digest: u64,
+    row: &[View<'_>],
+) -> Option<usize>
+    ensures some { IfSome result (λ n. slice_get (rows_of rows.now) n ≡ Some (seen row.now)) }
+    ensures none { IfNone result ((n : ℕ) → slice_get (rows_of rows.now) n ≡ Some (seen row.now)
+        → is_reached 16 slots.now (place_of (length slots.now) digest) n ≡ false) }
+{
+    let mut at = first_place(slots.len(), digest);
+    for _step in 0..WINDOW {
+        let Some(slot) = slots.get(at) else {
+            return None;
+        };
+        if *slot == 0 {
+            return None;
+        }
+        if agrees_at(rows, *slot - 1, row) {
+            return Some(*slot - 1);
+        }
+        at += 1;
+    }
+    None
+}
+
+/// Returns the number of this row, which has this digest.
+#[inline(always)]
+fn number_of(
+    rows: &[Vec<Value, Memory>],
+    slots: &[usize],
+    runs: &[Vec<usize, Memory>],
+    digest: u64,
+    row: &[View<'_>],
+) -> Option<usize>
+    requires filed { AreFiled (rows_of rows.now) slots.now (numbers_in runs.now) }
+    requires digest { digest ≡ digest_from 0 (seen row.now) }
+    ensures some { IfSome result (λ n. slice_get (rows_of rows.now) n ≡ Some (seen row.now)) }
+    ensures none { IfNone result ((n : ℕ) → slice_get (rows_of rows.now) n ≢ Some (seen row.now)) }
+{
+    match met_number(rows, slots, digest, row) {
+        Some(number) => Some(number),
+        None => find(rows, runs, row),
+    }
+}
+
+/// Returns the first empty slot for a row with this digest.
+fn free_place(slots: &[usize], digest: u64) -> Option<usize>
+    ensures found { result ≡ free_from 16 slots.now (place_of (length slots.now) digest) }
+    ensures within { IfSome result (λ p. p < length slots.now) }
+{
+    let mut at = first_place(slots.len(), digest);
+    for _step in 0..WINDOW {
+        let Some(slot) = slots.get(at) else {
+            return None;
+        };
+        if *slot == 0 {
+            return Some(at);
+        }
+        at += 1;
+    }
+    None
+}
+
+/// Writes the number of a row with this digest into the first empty slot for it, or adds it to the runs if there is
+/// none. The only error is a refused allocation, and leaves both as they were.
+fn file(
+    memory: Memory,
+    rows: &[Vec<Value, Memory>],
+    slots: &mut Vec<usize, Memory>,
+    runs: &mut Vec<Vec<usize, Memory>, Memory>,
+    digest: u64,
+    number: usize,
+) -> Result<(), AllocError>
+    requires small { number + 1 < 2 ^ 64 }
+    requires number { number < length (rows_of rows.now) }
+    requires runs { AreRuns (rows_of rows.now) (numbers_in runs.old.items) }
+    ensures len { length slots.new.items ≡ length slots.old.items }
+    ensures runs { AreRuns (rows_of rows.now) (numbers_in runs.new.items) }
+    ensures filed { OnOk result (is_kept slots.new.items (numbers_in runs.new.items)
+        (place_of (length slots.old.items) digest) number ≡ true) }
+    ensures kept { (at n : ℕ) → is_kept slots.old.items (numbers_in runs.old.items) at n ≡ true
+        → is_kept slots.new.items (numbers_in runs.new.items) at n ≡ true }
+    ensures slots { OnErr result (slots.new.items ≡ slots.old.items) }
+    ensures err { OnErr result (runs.new.items ≡ runs.old.items) }
+{
+    match free_place(slots.as_slice(), digest) {
+        Some(at) => {
+            slots[at] = number + 1;
+            Ok(())
+        }
+        None => add(memory, rows, runs, number),
+    }
+}
+
+/// Files all rows. The only error is a refused allocation.
+fn file_all(
+    memory: Memory,
+    rows: &[Vec<Value, Memory>],
+    slots: &mut Vec<usize, Memory>,
+    runs: &mut Vec<Vec<usize, Memory>, Memory>,
+) -> Result<(), AllocError>
+    requires { AreRuns (rows_of rows.now) (numbers_in runs.old.items) }
+    ensures { OnOk result (AreFiled (rows_of rows.now) slots.new.items (numbers_in runs.new.items)) }
+{
+    for (number, row) in rows.iter().enumerate() {
+        file(
+            memory,
+            rows,
+            slots,
+            runs,
+            digest_of_values(row.as_slice()),
+            number,
+        )?;
+    }
+    Ok(())
+}
+
+/// Rows of values, each once: NULL is equal to NULL. Contracts see them in the order in which they first came.
+pub struct Numbered {
+    memory: Memory,
+    rows: Vec<Vec<Value, Memory>, Memory>,
+    slots: Vec<usize, Memory>,
+    runs: Vec<Vec<usize, Memory>, Memory>,
+}
+
+impl Model for Numbered {
+    ghost use Rattle.std.specs.Prelude.{List};
+    ghost use Rattle.tql_spec.specs.Datum.{Row};
+    ghost use Rattle.tql_value.specs.Views.{rows_of};
+    ghost use Rattle.tql_exec_numbered.specs.Runs.{numbers_in};
+    ghost use Rattle.tql_exec_numbered.specs.Slots.{AreFiled};
+
+    ghost Value = { List Row };
+
+    ghost view = { λ n. rows_of n.rows.items };
+
+    ghost invariant = { λ n. AreFiled (rows_of n.rows.items) n.slots.items (numbers_in n.runs.items) };
+}
+
+impl Drop for Numbered {
+    fn drop(self) {
+        let Numbered {
+            memory: _,
+            rows,
+            slots,
+            runs,
+        } = self;
+        drop(rows);
+        drop(slots);
+        drop(runs);
+    }
+}
+
+impl Numbered {
+    ghost use Rattle.std.specs.Prelude.{◌≡◌, ◌≢◌, ◌++◌, ◌∷◌, ◌<◌, [], ℕ, IfErr, IfOk, length, OnErr, OnOk};
+    ghost use Rattle.std.specs.Prelude.{slice_get, slice_index_or, Some};
+    ghost use Rattle.tql_value.specs.Views.{row_of, rows_of};
+    ghost use Rattle.tql_exec_join.specs.Digest.{digest as digest_from};
+    ghost use Rattle.tql_exec_numbered.specs.Numbered.{seen, with_row};
+
+    /// Returns no rows. Makes no allocation.
+    pub fn new(memory: Memory) -> Numbered
+        ensures { result ≡ [] }
+    {
+        Numbered {
+            memory,
+            rows: Vec::new(memory),
+            slots: Vec::new(memory),
+            runs: Vec::new(memory),
+        }
+    }
+
+    /// Returns the number of rows.
+    pub fn len(&self) -> usize
+        ensures { result ≡ length self.now }
+    {
+        self.rows.len()
+    }
+
+    /// Returns the values of the row with a number.
+    pub fn row(&self, number: usize) -> &[Value]
+        requires { number < length self.now }
+        ensures { row_of result.now ≡ slice_index_or self.now number [] }
+    {
+        &self.rows[number]
+    }
+
+    /// Makes room in the table for one more row: a half of the slots stays empty.
+    fn make_room(&mut self) -> Result<(), AllocError>
+        ensures { self.new ≡ self.old }
+    {
+        if self.rows.len() < self.slots.len() / 2 {
+            return Ok(());
+        }
+        let size = self.slots.len().saturating_mul(4).max(FEWEST);
+        let mut slots: Vec<usize, Memory> = Vec::new(self.memory);
+        slots.resize(size, 0)?;
+        let mut runs: Vec<Vec<usize, Memory>, Memory> = Vec::new(self.memory);
+        file_all(self.memory, self.rows.as_slice(), &mut slots, &mut runs)?;
+        self.slots = slots;
+        self.runs = runs;
+        Ok(())
+    }
+
+    /// Puts a row, which has this digest and is not among the rows, behind them.
+    #[inline(never)]
+    fn add(&mut self, digest: u64, row: &[View<'_>]) -> Result<usize, Refusal>
+        requires { digest ≡ digest_from 0 (seen row.now) }
+        ensures rows { OnOk result (self.new ≡ self.old ++ seen row.now ∷ []) }
+        ensures number { IfOk result (λ n. slice_get self.new n ≡ Some (seen row.now)) }
+        ensures err { OnErr result (self.new ≡ self.old) }
+        ensures memory { IfErr result (λ e. e ≡ Refusal.OutOfMemory) }
+    {
+        let values = copied(self.memory, row)?;
+        self.make_room()?;
+        let number = self.rows.len();
+        self.rows.push(values)?;
+        let filed = file(
+            self.memory,
+            self.rows.as_slice(),
+            &mut self.slots,
+            &mut self.runs,
+            digest,
+            number,
+        );
+        match filed {
+            Ok(()) => Ok(number),
+            Err(refused) => {
+                drop(self.rows.pop());
+                Err(Refusal::from(refused))
+            }
+        }
+    }
+
+    /// Returns the number of the row with these values, which is put behind the others if it is not among them. For a
+    /// row that is among them no allocation is made. The only error is a refused allocation, and leaves the rows as
+    /// they were.
+    pub fn put(&mut self, row: &[View<'_>]) -> Result<usize, Refusal>
+        ensures rows { OnOk result (self.new ≡ with_row self.old (seen row.now)) }
+        ensures number { IfOk result (λ n. slice_get self.new n ≡ Some (seen row.now)) }
+        ensures err { OnErr result (self.new ≡ self.old) }
+        ensures memory { IfErr result (λ e. e ≡ Refusal.OutOfMemory) }
+    {
+        let digest = digest_of(row);
+        let number = number_of(
+            self.rows.as_slice(),
+            self.slots.as_slice(),
+            self.runs.as_slice(),
+            digest,
+            row,
+        );
+        match number {
+            Some(number) => Ok(number),
+            None => self.add(digest, row),
+        }
+    }
+
+    /// Returns the rows.
+    pub fn into_rows(self) -> Vec<Vec<Value, Memory>, Memory>
+        ensures { rows_of result.items ≡ self }
+    {
+        let Numbered {
+            memory: _,
+            rows,
+            slots: _,
+            runs: _,
+        } = self;
+        rows
+    }
+}

@@ -1,0 +1,2 @@
+pub mod Screens
+pub mod Coded
