@@ -4,13 +4,16 @@
 Usage: benches/keys.py [N..]        (first: make build; TQL=path of another program; sqlite3 on the path, and /usr/bin/time)
 
 Three tables: without a key; with one of an INTEGER; with one of an INTEGER and a VARCHAR(20). Of each N one-row INSERTs, then N SELECTs of one row
-by its key, then N UPDATEs of one row by its key; and how much memory a row takes. Then, of a table that keeps its history, N questions AS OF a moment
-for one of N rows, of which each was changed once. At last N / 10 rows of the third table whose numbers were chosen so that all rows are mixed into one
-number, by which they are found: made under the key, and found by it. That is the worst that whoever chooses values can do.
+by its key, then N UPDATEs of one row by its key; and how much memory a row takes. Of N rows with the second key, 200 statements each that ask for a
+range of 100 keys, for five keys, for two, or for one and a calculation, and that change or delete the rows of a range. Then, of a table that keeps its
+history, N questions AS OF a moment for one of N rows, of which each was changed once. At last N / 10 rows of the third table whose numbers were chosen
+so that all rows are mixed into one number, by which they are found: made under the key, and found by it. That is the worst that whoever chooses values
+can do.
 
 Each time is the lower of two runs, less that of what comes before. The text of `tql` has one statement a line, that of `sqlite3` too.
 """
 import os
+import re
 import resource
 import subprocess
 import sys
@@ -41,7 +44,7 @@ def took(who: str, path: str) -> tuple[float, int]:
 
 
 def steps(room: Path, name: str, count: int, parts: dict[str, list[tuple[str, list[str]]]]) -> None:
-    """A line for each part of a script: the time of one statement in it, in both programs."""
+    """A line for each part of a script: the time of one statement in it, in both programs; of N statements also the memory of a row."""
     told: dict[str, list[str]] = {}
     for who, texts in parts.items():
         before, whole = 0.0, ""
@@ -51,8 +54,8 @@ def steps(room: Path, name: str, count: int, parts: dict[str, list[tuple[str, li
             path.write_text(whole, encoding="utf-8")
             spent, memory = took(who, str(path))
             if at:
-                size = f", {memory * 1024 // count} bytes a row in all" if at == 1 else ""
-                told.setdefault(what, []).append(f"{who} {(spent - before) / count * 1e6:.1f} us{size}")
+                size = f", {memory * 1024 // count} bytes a row in all" if at == 1 and len(lines) == count else ""
+                told.setdefault(what, []).append(f"{who} {(spent - before) / len(lines) * 1e6:.1f} us{size}")
             before = spent
     for what, said in told.items():
         print(f"{name}, {count}, {what}: {'; '.join(said)}", flush=True)
@@ -77,6 +80,31 @@ def plain(room: Path, count: int) -> None:
                 texts.append(("UPDATE by the key", [f"UPDATE r SET x = 1 WHERE {seek.format(i)};" for i in order]))
             parts[who] = texts
         steps(room, name, count, parts)
+
+
+def ranges(room: Path, count: int) -> None:
+    """Rows of a range of 100 keys, of several keys, and of one with a calculation, found and changed."""
+    rows = [f"({it}, 'row {it}', {it % 100})" for it in (at * 7919 % count for at in range(count))]
+    keys = [at * 7919 % max(1, count - 100) for at in range(200)]
+    asked = {
+        "SELECT of 100 rows by BETWEEN": "SELECT k, x FROM r WHERE k BETWEEN {0} AND {99};",
+        "SELECT of 100 rows by BETWEEN, ORDER BY the key": "SELECT k, x FROM r WHERE k BETWEEN {0} AND {99} ORDER BY k DESC;",
+        "COUNT and SUM of 100 rows by > and <=": "SELECT COUNT(*), SUM(x) FROM r WHERE k > {0} AND k <= {100};",
+        "SELECT by IN of five keys": "SELECT x FROM r WHERE k IN ({0}, {50}, {3}, {99}, {17});",
+        "SELECT by an OR of two keys": "SELECT x FROM r WHERE k = {0} OR k = {50};",
+        "SELECT by the key and a calculation": "SELECT x FROM r WHERE k = {0} AND x + 1 > 0;",
+        "UPDATE of 100 rows by BETWEEN": "UPDATE r SET x = x + 1 WHERE k BETWEEN {0} AND {99};",
+        "DELETE of 100 rows by BETWEEN, rolled back": "{begin}; DELETE FROM r WHERE k BETWEEN {0} AND {99}; ROLLBACK;",
+    }
+    parts = {}
+    for who, kind, begin in (("tql", "INTEGER", "START TRANSACTION"), ("sqlite3", "BIGINT", "BEGIN")):
+        texts = [("", [f"CREATE TABLE r (k {kind}, t VARCHAR(20), x INTEGER, PRIMARY KEY (k));"]
+                  + [f"INSERT INTO r VALUES {', '.join(rows[at:at + 1000])};" for at in range(0, count, 1000)])]
+        for what, text in asked.items():
+            text = text.replace("{begin}", begin)
+            texts.append((what, [re.sub(r"\{(\d+)\}", lambda it, key=key: str(key + int(it[1])), text) for key in keys]))
+        parts[who] = texts
+    steps(room, "ranges of key (k)", count, parts)
 
 
 def past(room: Path, count: int) -> None:
@@ -127,6 +155,7 @@ def main() -> None:
         room = Path(folder)
         for count in [int(it) for it in sys.argv[1:]] or [1_000, 10_000, 100_000]:
             plain(room, count)
+            ranges(room, count)
             past(room, count)
             chosen(room, max(count // 10, 100))
 

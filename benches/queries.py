@@ -4,8 +4,9 @@
 Usage: benches/queries.py [N..]        (first: make build; TQL=path of another program; sqlite3 on the path)
 
 Two tables of N rows of three INTEGERs each: n is one of 0 to N - 1 and its own in each row, k is n modulo 100, c is 1. None has a key, and sqlite3 no
-index but those that it makes for a question. A third table has a period of 10 days of 1,000; the two columns are texts in sqlite3, with an index of
-the first. A fourth has its N rows written anew in three later minutes; in sqlite3 its history is kept by hand, with an index of the starts.
+index but those that it makes for a question. A third of the same columns is empty, and takes rows of the first by a query, which are rolled back. A
+fourth table has a period of 10 days of 1,000; the two columns are texts in sqlite3, with an index of the first. A fifth has its N rows written anew in
+three later minutes, and a reader was opened after the second; in sqlite3 its history is kept by hand, with an index of the starts.
 
 What is printed goes nowhere. Each time is that of a processor for a question and a row of the table: the lower of two runs of a script that asks the
 question as often as takes as long as making the table, less that of the script without it.
@@ -22,14 +23,20 @@ TQL = os.environ.get("TQL", str(TOP / "tql"))
 # How often a question is asked at most.
 MOST = 50_000
 ALWAYS = "s TIMESTAMP GENERATED ALWAYS AS ROW START, e TIMESTAMP GENERATED ALWAYS AS ROW END, PERIOD FOR SYSTEM_TIME (s, e)"
+LISTED = ", ".join(str(it * 37) for it in range(200))
+TAKEN = "INSERT INTO w SELECT n, k, c FROM t; ROLLBACK;"
 # What is asked: its name; the table that it is asked of; the question in tql, and in sqlite3 where it is another.
 QUESTIONS = [
     ("COUNT(*)", "plain", "SELECT COUNT(*) FROM t;", None),
     ("one row by a condition", "plain", "SELECT k FROM t WHERE n = 77;", None),
+    ("IN of 200 numbers", "plain", f"SELECT COUNT(*) FROM t WHERE n IN ({LISTED});", None),
+    ("SUM with a WHERE that 71 of 100 rows meet", "plain", "SELECT SUM(n) FROM t WHERE k < 71;", None),
+    ("five aggregates", "plain", "SELECT COUNT(*), SUM(n), MIN(n), MAX(k), COUNT(c) FROM t;", None),
     ("GROUP BY in 100 groups, with COUNT and SUM", "plain", "SELECT k, COUNT(*), SUM(n) FROM t GROUP BY k;", None),
     ("GROUP BY in N groups", "plain", "SELECT n, COUNT(*) FROM t GROUP BY n;", None),
     ("DISTINCT, of 100 values", "plain", "SELECT DISTINCT k FROM t;", None),
     ("ORDER BY of all rows", "plain", "SELECT n, k FROM t ORDER BY n DESC;", None),
+    ("INSERT of all rows from a SELECT", "plain", f"START TRANSACTION; {TAKEN}", f"BEGIN; {TAKEN}"),
     ("a join on an equality", "plain", "SELECT t.n, u.k FROM t JOIN u ON t.n = u.n;", None),
     ("LEFT JOIN", "plain", "SELECT t.n, u.k FROM t LEFT JOIN u ON t.n = u.n;", None),
     ("by a comma and WHERE", "plain", "SELECT t.n, u.k FROM t, u WHERE t.n = u.n;", None),
@@ -41,6 +48,7 @@ QUESTIONS = [
     ("all rows AS OF a moment, in 100 groups", "past",
      "SELECT k, COUNT(*), SUM(n) FROM h FOR SYSTEM_TIME AS OF TIMESTAMP '2011-01-01 00:01:30' GROUP BY k;",
      "SELECT k, COUNT(*), SUM(n) FROM h WHERE s <= 90 AND e > 90 GROUP BY k;"),
+    ("READ of all rows", "past", "READ r SELECT n, k FROM h;", "SELECT n, k FROM h WHERE s <= 120 AND e > 120;"),
 ]
 
 
@@ -50,8 +58,8 @@ def inserted(table: str, rows: list[str]) -> list[str]:
 
 
 def plain(who: str, count: int) -> list[str]:
-    """The two tables, with their rows in two orders; the factors have no divisor in common with the sizes that are asked for."""
-    lines = [f"CREATE TABLE {name} (n INTEGER, k INTEGER, c INTEGER);" for name in "tu"] + [begun(who)]
+    """The two tables, with their rows in two orders, and the empty one; the factors have no divisor in common with the sizes that are asked for."""
+    lines = [f"CREATE TABLE {name} (n INTEGER, k INTEGER, c INTEGER);" for name in "tuw"] + [begun(who)]
     for name, factor in (("t", 7919), ("u", 104_729)):
         numbers = [at * factor % count for at in range(count)]
         lines += inserted(name, [f"({number}, {number % 100}, 1)" for number in numbers])
@@ -74,7 +82,7 @@ def past(who: str, count: int) -> list[str]:
         lines = [f"CREATE TABLE h (n INTEGER, k INTEGER, {ALWAYS}) WITH SYSTEM VERSIONING;", "AT TIMESTAMP '2011-01-01 00:00:00';", begun(who)]
         lines += [*inserted("h", [f"({at}, {at % 100})" for at in range(count)]), "COMMIT;"]
         for minute in (1, 2, 3):
-            lines += [f"AT TIMESTAMP '2011-01-01 00:0{minute}:00';", "UPDATE h SET n = n + 1;"]
+            lines += [f"AT TIMESTAMP '2011-01-01 00:0{minute}:00';", "UPDATE h SET n = n + 1;"] + ["OPEN READER r;"] * (minute == 2)
         return lines
     lines = ["CREATE TABLE h (n INTEGER, k INTEGER, s INTEGER, e INTEGER);", "CREATE INDEX begun ON h (s);", begun(who)]
     lines += inserted("h", [f"({at}, {at % 100}, 0, 99999999)" for at in range(count)])

@@ -3,16 +3,17 @@
 
 Usage: tools/copies.py                         writes the scripts and texts of crates/test_cases/data/cases/copies
        tools/copies.py --look                  says whether they are what it writes; the status is 1 where they are not
-       tools/copies.py --try [COUNT [FIRST]]   runs COUNT (by default 100) further scripts of few key values, by the counters from FIRST (by default
-                                               1,000) on, and compares what the program prints with what the machine does
+       tools/copies.py --try [COUNT [FIRST]]   runs COUNT (by default 100) further scripts of few key values, or of ranges, by the counters from
+                                               FIRST (by default 1,000) on, and compares what the program prints with what the machine does
 
 The machine (tools/copying) shares nothing with the engine: it is told what a statement says, reads no SQL, and writes each reply itself, as
 docs/LANGUAGE.md has it. A portion is done point by point, day by day or microsecond by microsecond, with no thought of the ends of periods,
 and so are keys and references: every one of every table is tested after every change, at each point.
 
-Most scripts go over the whole grammar. The last ones have few key values with many rows each, now and in the past (tools/copying/crowds.py). --try
-keeps a script that differs in a folder, which it names, with both texts; the status is 1 then. The program is TQL=path, or ./tql where it is newer
-than every source, or else ./tql-quick, which is compiled first where it has to be (make quick).
+Most scripts go over the whole grammar. The last ones have few key values with many rows each, now and in the past (tools/copying/crowds.py). Every
+third script of --try has a table that is read by ranges and by several values, and in groups (tools/copying/spreads.py). --try keeps a script that
+differs in a folder, which it names, with both texts; the status is 1 then. The program is TQL=path, or ./tql where it is newer than every source, or
+else ./tql-quick, which is compiled first where it has to be (make quick).
 """
 import os
 import subprocess
@@ -29,6 +30,7 @@ from copying.crowds import Crowd
 from copying.machine import At, Machine, Turn
 from copying.makers import Maker
 from copying.queries import Span, everything
+from copying.spreads import Spread
 from copying.values import MOMENT
 from quick import program
 
@@ -37,8 +39,9 @@ HEAD = "-- Made at random (tools/copies.py). The text comes from a machine that 
 # How many scripts go over the whole grammar; how many of them, the first ones, are without PRUNE HISTORY, and how many without readers; how many
 # statements each has besides its beginning and its end; and of how many of each sort each growth is refused in turn.
 SCRIPTS, PLAIN, UNREAD, LENGTH, IN_TURN = 280, 200, 240, 40, 10
-# How many scripts more have few key values; how many statements at most change hot rows at first; and how many other statements each has.
-CROWDS, VERSIONS, CROWD_LENGTH = 16, 32, 50
+# How many scripts more have few key values; how many statements at most change hot rows at first; how many other statements each has; and how many
+# a script of ranges.
+CROWDS, VERSIONS, CROWD_LENGTH, SPREAD_LENGTH = 16, 32, 50, 60
 # How long a script may take, in seconds, and by which counter those begin that are tried.
 PATIENCE, FIRST = 60, 1000
 
@@ -102,9 +105,23 @@ def crowd(seed: int) -> tuple[str, str]:
     return made.ended(maker)
 
 
+def spread(seed: int) -> tuple[str, str]:
+    """A script over a table that is read by ranges and in groups, and what the machine prints. One of four has PRUNE HISTORY, and one has readers."""
+    made = Script()
+    maker = Spread(seed, made.machine, seed % 4 == 2, seed % 4 == 3)
+    made.add(At(maker.clock(BEGIN)))
+    for name in ("PART", "LIST"):
+        made.add(maker.definition(name))
+    for statement in maker.filled():
+        made.add(statement)
+    for _ in range(SPREAD_LENGTH):
+        made.add(maker.picked())
+    return made.ended(maker)
+
+
 def run(words: list[str], counter: int) -> tuple[int, str, str, str]:
     """A counter, its script, what the machine prints, and what the program does."""
-    sql, text = crowd(counter)
+    sql, text = (spread if counter % 3 == 2 else crowd)(counter)
     try:
         ran = subprocess.run(words, input=sql.encode(), stdout=subprocess.PIPE, stderr=subprocess.DEVNULL, timeout=PATIENCE, check=False)
     except subprocess.TimeoutExpired:

@@ -25,6 +25,8 @@ FLOOR, PATIENCE, TRIPLE, DOUBLE, ALIKE = 0.05, 60, 3.0, 2.4, 1.5
 MADE, ONE = "CREATE TABLE t (x INTEGER, y VARCHAR(65535));\nINSERT INTO t VALUES (1, 'a');\n", "CREATE TABLE\nINSERT 1\n"
 ROW, NONE = "X\n1\n(1 rows)\n", "X\n(0 rows)\n"
 LONGEST = 1048576
+# How digests are mixed for joins, groups and DISTINCT.
+FACTOR = 11_400_714_819_323_198_485
 
 
 def refused(text: str) -> str:
@@ -268,6 +270,54 @@ def timespans(size: int) -> tuple[str, str]:
     return made + f"CREATE TABLE c (x INTEGER, f DATE, u DATE{lists});\n", "CREATE TABLE\n" + refused("E23 form not allowed here")
 
 
+def chosen(size: int) -> list[int]:
+    """Numbers whose digests are 1, 2, 3 and so on, so that a table of groups begins its search for each at one place."""
+    inverse = pow(FACTOR, -1, 2**64)
+    return [(at * inverse + 2**63) % 2**64 - 2**63 for at in range(1, size + 1)]
+
+
+def chosen_pairs(size: int) -> list[tuple[int, str]]:
+    """Pairs of a number and a text that all have one digest."""
+    inverse, made = pow(FACTOR, -1, 2**64), []
+    for at in range(size):
+        mixed = 4711
+        for byte in reversed(b"\x01" + str(at).encode()):
+            mixed = (mixed * inverse - byte) % 2**64
+        made.append(((mixed * inverse + 2**63) % 2**64 - 2**63, str(at)))
+    return made
+
+
+def distinct(size: int) -> tuple[str, str]:
+    """DISTINCT of so many chosen numbers, each of which is there twice."""
+    numbers = chosen(size)
+    script, replies = packed("t", [f"({it}, 'a')" for it in numbers] * 2)
+    return ("CREATE TABLE t (x INTEGER, y VARCHAR(9));\n" + script + "SELECT DISTINCT x FROM t;\n",
+            "CREATE TABLE\n" + replies + "X\n" + "".join(f"{it}\n" for it in sorted(numbers)) + f"({size} rows)\n")
+
+
+def groups(size: int) -> tuple[str, str]:
+    """GROUP BY of so many chosen pairs, none of which is there twice."""
+    script, replies = packed("t", [f"({number}, '{text}')" for number, text in chosen_pairs(size)])
+    return ("CREATE TABLE t (x INTEGER, y VARCHAR(9));\n" + script + "SELECT x FROM t GROUP BY x, y HAVING COUNT(*) > 1;\n",
+            "CREATE TABLE\n" + replies + NONE)
+
+
+def ranges(size: int) -> tuple[str, str]:
+    """So many SELECTs, each by a range of five keys, of so many rows."""
+    script, replies = packed("t", [f"({it}, {it % 7})" for it in range(size)])
+    return ("CREATE TABLE t (x INTEGER, y INTEGER, PRIMARY KEY (x));\n" + script
+            + "".join(f"SELECT SUM(x) AS x FROM t WHERE x BETWEEN {it} AND {it + 4};\n" for it in range(size - 4)),
+            "CREATE TABLE\n" + replies + "".join(f"X\n{5 * it + 10}\n(1 rows)\n" for it in range(size - 4)))
+
+
+def range_changes(size: int) -> tuple[str, str]:
+    """UPDATEs and DELETEs, each of five of so many rows by a range of their key, until none is left."""
+    script, replies = packed("t", [f"({it}, 0)" for it in range(size)])
+    return ("CREATE TABLE t (x INTEGER, y INTEGER, PRIMARY KEY (x));\n" + script
+            + "".join(f"UPDATE t SET y = 1 WHERE x > {it - 1} AND x < {it + 5};\nDELETE FROM t WHERE x BETWEEN {it} AND {it + 4};\n" for it in range(0, size, 5))
+            + "SELECT x FROM t;\n", "CREATE TABLE\n" + replies + "UPDATE 5\nDELETE 5\n" * (size // 5) + NONE)
+
+
 def misspelt(size: int) -> tuple[str, str]:
     """An unknown column with a name of so many letters, the table's column with all of these but the last two, and so many other names."""
     name = "q" * size
@@ -298,6 +348,10 @@ FORMS = (
     ("UPDATEs of a day's portion, periods of one key value", 2500, by_portion, DOUBLE),
     ("SELECTs AS OF by key, versions of one row", 2500, as_of, DOUBLE), ("READs by key, versions of one row", 2500, by_reader, DOUBLE),
     ("INSERTs beside tables with references, tables", 110, beside, ALIKE),
+    ("DISTINCT of numbers whose digests were chosen", 2500, distinct, DOUBLE),
+    ("GROUP BY of pairs with one digest", 2500, groups, DOUBLE),
+    ("SELECTs by a range of five keys, rows", 1250, ranges, DOUBLE),
+    ("UPDATEs and DELETEs by a range of five keys, rows", 2500, range_changes, DOUBLE),
 )
 
 
