@@ -31,7 +31,7 @@ KEY = ", PRIMARY KEY ({})"
 
 class Row:
     """A line: what is asked, of which table, how often, whether it is counted by the rows of the table, and the statements. A number in braces
-    ({0}, {99}) is another key each time, so many further; `lite` is what sqlite3 is asked where it differs, and None where it has no counterpart."""
+    ({0}, {99}) is another key each time, plus that number; `lite` is what sqlite3 is asked where it differs, and None where it has no counterpart."""
 
     def __init__(self, what: str, table: str, text: str, lite: "str | None" = "", times: int = 20, by_rows: bool = False) -> None:
         self.what, self.table, self.text, self.times, self.by_rows = what, table, text, times, by_rows

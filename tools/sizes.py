@@ -288,7 +288,7 @@ def chosen_pairs(size: int) -> list[tuple[int, str]]:
 
 
 def distinct(size: int) -> tuple[str, str]:
-    """DISTINCT of so many chosen numbers, each of which is there twice."""
+    """DISTINCT of n chosen numbers, each twice."""
     numbers = chosen(size)
     script, replies = packed("t", [f"({it}, 'a')" for it in numbers] * 2)
     return ("CREATE TABLE t (x INTEGER, y VARCHAR(9));\n" + script + "SELECT DISTINCT x FROM t;\n",
@@ -296,14 +296,14 @@ def distinct(size: int) -> tuple[str, str]:
 
 
 def groups(size: int) -> tuple[str, str]:
-    """GROUP BY of so many chosen pairs, none of which is there twice."""
+    """GROUP BY of n chosen pairs, each once."""
     script, replies = packed("t", [f"({number}, '{text}')" for number, text in chosen_pairs(size)])
     return ("CREATE TABLE t (x INTEGER, y VARCHAR(9));\n" + script + "SELECT x FROM t GROUP BY x, y HAVING COUNT(*) > 1;\n",
             "CREATE TABLE\n" + replies + NONE)
 
 
 def ranges(size: int) -> tuple[str, str]:
-    """So many SELECTs, each by a range of five keys, of so many rows."""
+    """n SELECTs from a table of n rows, each by a range of five keys."""
     script, replies = packed("t", [f"({it}, {it % 7})" for it in range(size)])
     return ("CREATE TABLE t (x INTEGER, y INTEGER, PRIMARY KEY (x));\n" + script
             + "".join(f"SELECT SUM(x) AS x FROM t WHERE x BETWEEN {it} AND {it + 4};\n" for it in range(size - 4)),
@@ -311,7 +311,7 @@ def ranges(size: int) -> tuple[str, str]:
 
 
 def range_changes(size: int) -> tuple[str, str]:
-    """UPDATEs and DELETEs, each of five of so many rows by a range of their key, until none is left."""
+    """UPDATEs and DELETEs of a table of n rows, each by a range of five keys, until the table is empty."""
     script, replies = packed("t", [f"({it}, 0)" for it in range(size)])
     return ("CREATE TABLE t (x INTEGER, y INTEGER, PRIMARY KEY (x));\n" + script
             + "".join(f"UPDATE t SET y = 1 WHERE x > {it - 1} AND x < {it + 5};\nDELETE FROM t WHERE x BETWEEN {it} AND {it + 4};\n" for it in range(0, size, 5))
