@@ -13,7 +13,7 @@ To use the program:
   make build        proves it, with a line for each crate, and leaves it as ./tql
   make install      installs ./tql (or TQL=path), its manual page, two documents and the licences below PREFIX=/usr/local
 To prove and test:
-  make test         runs the gate: make lint, the command lines of the program, every proof and every test, from nothing
+  make test         runs the gate: make lint, the command lines of the program, every proof and every test, from nothing; says what it cost
   make edits        tries the must-fail edits, which the prover must refuse: all, or CRATE=name, or EDIT=name too
   make lines        tries the command lines of the program, in a minute or two and without a proof
   make lint         checks code, documents and what each crate costs the gate, in seconds
@@ -43,7 +43,7 @@ install:
 	install -D -m 644 -t "$(DESTDIR)$(PREFIX)/share/doc/tql" LICENSE-APACHE LICENSE-MIT docs/LANGUAGE.md docs/QUESTIONS.md
 
 test: lint lines
-	@rt ci
+	@tools/gate.py
 
 edits:
 	@tools/edits.py "$(CRATE)" "$(EDIT)"

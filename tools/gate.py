@@ -1,0 +1,99 @@
+#!/usr/bin/env python3
+"""Runs the gate, rt ci, and says before its last line what it cost: processor seconds of each crate and task, and their sum.
+
+Usage: tools/gate.py        (a part of make test)
+
+What rt ci prints is passed on as it comes. Every SECONDS its checks are looked up in /proc, so of each the seconds after the last look are missed,
+some two of a hundred. A check belongs to the crate that it names; it is a test where it reads tests, and an edit where it runs in a copy of the crate.
+Shared processors are slower, so a fixed loop is timed too: 'by pace' is the sum as it would be on a machine where the loop takes PACE seconds. The
+status is that of rt ci.
+"""
+import os
+import re
+import statistics
+import subprocess
+import sys
+import threading
+import time
+from pathlib import Path
+
+SECONDS, PACE, LEAST = 2, 0.15, 30
+TICKS = os.sysconf("SC_CLK_TCK")
+# The table has a line for each that took LEAST seconds or more.
+NAMED = re.compile(rb"--crate-name\0(\w+)\0")
+
+
+def loop() -> float:
+    """The processor seconds that a fixed loop takes now."""
+    began, total = time.thread_time(), 0
+    for it in range(2_000_000):
+        total += it * it
+    return time.thread_time() - began
+
+
+def checks() -> "list[tuple[str, tuple[str, str], float]]":
+    """The checks that run now: which process, of which crate and task, and its processor seconds."""
+    found = []
+    for folder in Path("/proc").iterdir():
+        if not folder.name.isdigit():
+            continue
+        try:
+            words, stat, place = (folder / "cmdline").read_bytes(), (folder / "stat").read_text(), os.readlink(folder / "cwd")
+        except OSError:
+            continue
+        named = NAMED.search(words)
+        if not named or b"rattle" not in words.split(b"\0")[0]:
+            continue
+        fields = stat.rpartition(")")[2].split()
+        task = "edits" if "rt-edit" in place else "tests" if b"\0--test\0" in words else "proof"
+        used = (int(fields[11]) + int(fields[12])) / TICKS
+        found.append((f"{folder.name}.{fields[19]}", (named[1].decode(), task), used))
+    return found
+
+
+class Meter(threading.Thread):
+    """Looks at the checks until it is told to end."""
+
+    def __init__(self) -> None:
+        super().__init__(daemon=True)
+        self.ended, self.used, self.paces = threading.Event(), {}, [loop()]
+
+    def run(self) -> None:
+        looks = 0
+        while not self.ended.wait(SECONDS):
+            looks += 1
+            self.used.update({process: (of, used) for process, of, used in checks()})
+            if looks % 15 == 0:
+                self.paces.append(loop())
+
+    def report(self) -> str:
+        """The table and the sums."""
+        found = {}
+        for of, used in self.used.values():
+            found[of] = found.get(of, 0.0) + used
+        lines = [f"gate: {used:6.0f} s  {crate} {task}" for (crate, task), used in sorted(found.items(), key=lambda it: -it[1]) if used >= LEAST]
+        minutes, pace = sum(found.values()) / 60, statistics.median(self.paces)
+        sums = {task: sum(used for (_, at), used in found.items() if at == task) / 60 for task in ("proof", "tests", "edits")}
+        lines.append("gate: " + ", ".join(f"{task} {used:.0f}" for task, used in sums.items()) + " processor minutes")
+        lines.append(f"gate: in all {minutes:.0f} processor minutes, by pace {minutes * PACE / pace:.0f} (the loop took {pace:.3f} s)")
+        return "\n".join(lines)
+
+
+def main() -> int:
+    meter = Meter()
+    meter.start()
+    # The last line is held back, so that it stays the last.
+    last = ""
+    with subprocess.Popen(["rt", "ci"], stdout=subprocess.PIPE, text=True, errors="replace") as ran:
+        for line in ran.stdout:
+            print(last, end="", flush=True)
+            last = line
+    meter.ended.set()
+    meter.join()
+    print(meter.report(), flush=True)
+    print(last, end="", flush=True)
+    return ran.returncode
+
+
+if __name__ == "__main__":
+    sys.exit(main())
