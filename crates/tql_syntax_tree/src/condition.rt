@@ -1,6 +1,7 @@
 //! The trees of conditions.
 ghost use Rattle.std.specs.Prelude.{◌≡◌, IfOk};
 
+use crate::boxed::boxed;
 use crate::expression::{ExprIn, Name, Named};
 use std::alloc::{AllocError, Allocator};
 use tql_memory::Memory;
@@ -117,12 +118,12 @@ pub fn boxed_cond<'a>(
 ) -> Result<Box<Cond<'a>, Memory>, AllocError>
     ensures { IfOk result (λ b. b.value ≡ condition.entry) }
 {
-    Ok(Box::new(memory, condition)?)
+    boxed(memory, condition)
 }
 
 /// Boxes a test. The only error is a failed allocation.
 pub fn boxed_test<'a>(memory: Memory, test: Test<'a>) -> Result<Box<Test<'a>, Memory>, AllocError>
     ensures { IfOk result (λ b. b.value ≡ test.entry) }
 {
-    Ok(Box::new(memory, test)?)
+    boxed(memory, test)
 }

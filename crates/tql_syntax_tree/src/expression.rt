@@ -3,6 +3,7 @@
 //! offset, so the meaning of a statement does not depend on it.
 ghost use Rattle.std.specs.Prelude.{◌≡◌, IfOk};
 
+use crate::boxed::boxed;
 use std::alloc::{AllocError, Allocator};
 use tql_memory::Memory;
 
@@ -100,5 +101,5 @@ pub type Primary<'a> = PrimaryIn<'a, Memory>;
 pub fn boxed_expr<'a>(memory: Memory, value: Expr<'a>) -> Result<Box<Expr<'a>, Memory>, AllocError>
     ensures { IfOk result (λ b. b.value ≡ value.entry) }
 {
-    Ok(Box::new(memory, value)?)
+    boxed(memory, value)
 }

@@ -1,6 +1,7 @@
 //! The syntax trees of statements, which the parser builds and the binder reads, and checks on a tree alone.
 #![tactic(auto)]
 
+mod boxed;
 pub mod condition;
 pub mod expression;
 pub mod name;

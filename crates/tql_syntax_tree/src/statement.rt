@@ -1,6 +1,7 @@
 //! The trees of statements.
 ghost use Rattle.std.specs.Prelude.{◌≡◌, IfOk};
 
+use crate::boxed::boxed;
 use crate::condition::Cond;
 use crate::expression::{Expr, Name, Named};
 use std::alloc::AllocError;
@@ -32,11 +33,21 @@ pub struct ColumnTree<'a> {
 }
 
 /// The column list of a foreign key, with its period.
-#[derive(Drop)]
 pub struct RefList<'a> {
     pub first: Name<'a>,
     pub more: Vec<Name<'a>, Memory>,
     pub period: Option<Name<'a>>,
+}
+
+impl<'a> Drop for RefList<'a> {
+    fn drop(self) {
+        let RefList {
+            first: _,
+            more,
+            period: _,
+        } = self;
+        drop(more);
+    }
 }
 
 /// A key: its columns, and the period that is declared WITHOUT OVERLAPS.
@@ -99,12 +110,24 @@ impl<'a> Drop for Element<'a> {
 }
 
 /// CREATE TABLE.
-#[derive(Drop)]
 pub struct CreateTree<'a> {
     pub table: Name<'a>,
     pub first: Element<'a>,
     pub more: Vec<Element<'a>, Memory>,
     pub is_versioned: bool,
+}
+
+impl<'a> Drop for CreateTree<'a> {
+    fn drop(self) {
+        let CreateTree {
+            table: _,
+            first,
+            more,
+            is_versioned: _,
+        } = self;
+        drop(first);
+        drop(more);
+    }
 }
 
 /// A FOR SYSTEM_TIME clause, or none. Moments are kept as quoted texts.
@@ -125,32 +148,61 @@ pub struct RefTree<'a> {
 }
 
 /// A table reference joined on a condition.
-#[derive(Drop)]
 pub struct Joined<'a> {
     pub reference: RefTree<'a>,
     pub condition: Box<Cond<'a>, Memory>,
 }
 
+impl<'a> Drop for Joined<'a> {
+    fn drop(self) {
+        let Joined {
+            reference: _,
+            condition,
+        } = self;
+        drop(condition);
+    }
+}
+
 /// A join.
-#[derive(Drop)]
 pub enum JoinTree<'a> {
     Inner(Box<Joined<'a>, Memory>),
     Left(Box<Joined<'a>, Memory>),
     Cross(Box<RefTree<'a>, Memory>),
 }
 
+impl<'a> Drop for JoinTree<'a> {
+    fn drop(self) {
+        match self {
+            JoinTree::Inner(joined) | JoinTree::Left(joined) => drop(joined),
+            JoinTree::Cross(reference) => drop(reference),
+        }
+    }
+}
+
 /// A chain of joins in FROM.
-#[derive(Drop)]
 pub struct ChainTree<'a> {
     pub first: RefTree<'a>,
     pub joins: Vec<JoinTree<'a>, Memory>,
 }
 
+impl<'a> Drop for ChainTree<'a> {
+    fn drop(self) {
+        let ChainTree { first: _, joins } = self;
+        drop(joins);
+    }
+}
+
 /// An item of the select list.
-#[derive(Drop)]
 pub struct Item<'a> {
     pub value: Box<Expr<'a>, Memory>,
     pub alias: Option<Name<'a>>,
+}
+
+impl<'a> Drop for Item<'a> {
+    fn drop(self) {
+        let Item { value, alias: _ } = self;
+        drop(value);
+    }
 }
 
 /// A select list: `*`, or items.
@@ -217,10 +269,17 @@ pub struct OrderTree<'a> {
 }
 
 /// A query.
-#[derive(Drop)]
 pub struct Query<'a> {
     pub select: Box<SelectTree<'a>, Memory>,
     pub ordering: Vec<OrderTree<'a>, Memory>,
+}
+
+impl<'a> Drop for Query<'a> {
+    fn drop(self) {
+        let Query { select, ordering } = self;
+        drop(select);
+        drop(ordering);
+    }
 }
 
 /// A cell of VALUES or SET.
@@ -271,18 +330,35 @@ impl<'a> Drop for RowSource<'a> {
 }
 
 /// INSERT. `columns` is empty where the statement names none.
-#[derive(Drop)]
 pub struct Insert<'a> {
     pub table: Name<'a>,
     pub columns: Vec<Name<'a>, Memory>,
     pub rows: RowSource<'a>,
 }
 
+impl<'a> Drop for Insert<'a> {
+    fn drop(self) {
+        let Insert {
+            table: _,
+            columns,
+            rows,
+        } = self;
+        drop(columns);
+        drop(rows);
+    }
+}
+
 /// An assignment of SET.
-#[derive(Drop)]
 pub struct SetTree<'a> {
     pub column: Name<'a>,
     pub value: CellTree<'a>,
+}
+
+impl<'a> Drop for SetTree<'a> {
+    fn drop(self) {
+        let SetTree { column: _, value } = self;
+        drop(value);
+    }
 }
 
 /// A point of a portion: the quoted text of a DATE or a TIMESTAMP literal.
@@ -325,11 +401,21 @@ impl<'a> Drop for Update<'a> {
 }
 
 /// DELETE.
-#[derive(Drop)]
 pub struct Delete<'a> {
     pub table: Name<'a>,
     pub portion: Option<PortionTree<'a>>,
     pub filter: Option<Box<Cond<'a>, Memory>>,
+}
+
+impl<'a> Drop for Delete<'a> {
+    fn drop(self) {
+        let Delete {
+            table: _,
+            portion: _,
+            filter,
+        } = self;
+        drop(filter);
+    }
 }
 
 /// The statements.
@@ -363,7 +449,7 @@ pub fn boxed_joined<'a>(
 ) -> Result<Box<Joined<'a>, Memory>, AllocError>
     ensures { IfOk result (λ b. b.value ≡ joined.entry) }
 {
-    Ok(Box::new(memory, joined)?)
+    boxed(memory, joined)
 }
 
 /// Boxes a table reference. The only error is a failed allocation.
@@ -373,7 +459,7 @@ pub fn boxed_reference<'a>(
 ) -> Result<Box<RefTree<'a>, Memory>, AllocError>
     ensures { IfOk result (λ b. b.value ≡ reference.entry) }
 {
-    Ok(Box::new(memory, reference)?)
+    boxed(memory, reference)
 }
 
 /// Boxes a select. The only error is a failed allocation.
@@ -383,7 +469,7 @@ pub fn boxed_select<'a>(
 ) -> Result<Box<SelectTree<'a>, Memory>, AllocError>
     ensures { IfOk result (λ b. b.value ≡ select.entry) }
 {
-    Ok(Box::new(memory, select)?)
+    boxed(memory, select)
 }
 
 /// Boxes a query. The only error is a failed allocation.
@@ -393,7 +479,7 @@ pub fn boxed_query<'a>(
 ) -> Result<Box<Query<'a>, Memory>, AllocError>
     ensures { IfOk result (λ b. b.value ≡ query.entry) }
 {
-    Ok(Box::new(memory, query)?)
+    boxed(memory, query)
 }
 
 /// Boxes a constraint. The only error is a failed allocation.
@@ -403,7 +489,7 @@ pub fn boxed_constraint<'a>(
 ) -> Result<Box<Constraint<'a>, Memory>, AllocError>
     ensures { IfOk result (λ b. b.value ≡ constraint.entry) }
 {
-    Ok(Box::new(memory, constraint)?)
+    boxed(memory, constraint)
 }
 
 /// Boxes a CREATE TABLE. The only error is a failed allocation.
@@ -413,7 +499,7 @@ pub fn boxed_create<'a>(
 ) -> Result<Box<CreateTree<'a>, Memory>, AllocError>
     ensures { IfOk result (λ b. b.value ≡ create.entry) }
 {
-    Ok(Box::new(memory, create)?)
+    boxed(memory, create)
 }
 
 /// Boxes an INSERT. The only error is a failed allocation.
@@ -423,7 +509,7 @@ pub fn boxed_insert<'a>(
 ) -> Result<Box<Insert<'a>, Memory>, AllocError>
     ensures { IfOk result (λ b. b.value ≡ insert.entry) }
 {
-    Ok(Box::new(memory, insert)?)
+    boxed(memory, insert)
 }
 
 /// Boxes an UPDATE. The only error is a failed allocation.
@@ -433,7 +519,7 @@ pub fn boxed_update<'a>(
 ) -> Result<Box<Update<'a>, Memory>, AllocError>
     ensures { IfOk result (λ b. b.value ≡ update.entry) }
 {
-    Ok(Box::new(memory, update)?)
+    boxed(memory, update)
 }
 
 /// Boxes a DELETE. The only error is a failed allocation.
@@ -443,5 +529,5 @@ pub fn boxed_delete<'a>(
 ) -> Result<Box<Delete<'a>, Memory>, AllocError>
     ensures { IfOk result (λ b. b.value ≡ delete.entry) }
 {
-    Ok(Box::new(memory, delete)?)
+    boxed(memory, delete)
 }

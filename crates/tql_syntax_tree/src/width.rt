@@ -81,8 +81,7 @@ pub fn is_too_wide(statement: &Statement<'_>) -> bool
     match statement {
         Statement::Create(create) => is_wide_table(create),
         Statement::Insert(insert) => is_wide_insert(insert),
-        Statement::Query(query) => is_wide_query(query),
-        Statement::Read(_, query) => is_wide_query(query),
+        Statement::Query(query) | Statement::Read(_, query) => is_wide_query(query),
         _ => false,
     }
 }
