@@ -2,8 +2,7 @@
 ghost use Rattle.std.specs.Prelude.{◌≡◌, ◌++◌, false, map, option_map, IfOk, string_bytes};
 ghost use Rattle.clap.specs.Words.{FailsBy, app_of, found_of, rows_of, rule_of};
 ghost use Rattle.tql_options.specs.CommandLine.{IsLineOf, Reads, faults_in, texts, tql_line, values_of};
-ghost use Rattle.tql_options.specs.CommandLine.{check_rule, bail_rule, interactive_rule, quiet_rule, plans_rule};
-ghost use Rattle.tql_options.specs.CommandLine.{memory_rule, format_rule, command_rule, script_rule};
+ghost use Rattle.tql_options.specs.Described.{rule_told, IsGiven};
 ghost use Rattle.tql_options.specs.CommandLine.{bound_of, format_of, input_named, inputs_of, named_format};
 ghost use Rattle.tql_options.specs.declared.options.Input.TheVariants as input;
 
@@ -162,108 +161,130 @@ impl<'a> CommandLine<'a> {
     }
 }
 
-/// The flag `--check`.
-fn check_flag<'a>(alloc: Global) -> Arg<'a>
-    ensures rule { rule_of result ≡ check_rule }
-    ensures here { result.global ≡ false }
-{
-    Arg::new(alloc, "check")
-        .long("check")
-        .action(ArgAction::SetTrue)
-        .help("Only check each statement by the grammar")
+/// An argument of the command line, and its line of the help.
+#[derive(Clone, Copy)]
+struct Described<'a> {
+    id: &'a str,
+    long: Option<&'a str>,
+    short: Option<char>,
+    action: Option<ArgAction>,
+    /// The name of its value, if it takes one after `--`.
+    value: Option<&'a str>,
+    help: &'a str,
 }
 
-/// The flag `--bail`.
-fn bail_flag<'a>(alloc: Global) -> Arg<'a>
-    ensures rule { rule_of result ≡ bail_rule }
+/// A flag `--NAME` or an option without a short letter or a value.
+const FLAG: Described<'static> = Described {
+    id: "",
+    long: None,
+    short: None,
+    action: Some(ArgAction::SetTrue),
+    value: None,
+    help: "",
+};
+
+/// The arguments, in the order of the help.
+static ARGUMENTS: [Described<'static>; 9] = [
+    Described {
+        id: "check",
+        long: Some("check"),
+        help: "Only check each statement by the grammar",
+        ..FLAG
+    },
+    Described {
+        id: "bail",
+        long: Some("bail"),
+        help: "Stop at the first refused statement",
+        ..FLAG
+    },
+    Described {
+        id: "interactive",
+        long: Some("interactive"),
+        short: Some('i'),
+        help: "Read the standard input after each SCRIPT and TEXT",
+        ..FLAG
+    },
+    Described {
+        id: "quiet",
+        long: Some("quiet"),
+        short: Some('q'),
+        help: "Write no line to the standard error for a refused statement",
+        ..FLAG
+    },
+    Described {
+        id: "plans",
+        long: Some("plans"),
+        help: "Write the access paths of each query to the standard error",
+        ..FLAG
+    },
+    Described {
+        id: "memory",
+        long: Some("memory"),
+        action: None,
+        value: Some("SIZE"),
+        help: "Refuse what would take more than SIZE bytes of memory; SIZE may end in K, M or G",
+        ..FLAG
+    },
+    Described {
+        id: "format",
+        long: Some("format"),
+        action: None,
+        value: Some("FORMAT"),
+        help: "Write replies as table, box, csv, json or jsonl; the default is box at a terminal, else table",
+        ..FLAG
+    },
+    Described {
+        id: "command",
+        long: Some("command"),
+        short: Some('c'),
+        action: Some(ArgAction::Append),
+        value: Some("TEXT"),
+        help: "Run TEXT as a script; its last statement needs no `;`",
+    },
+    Described {
+        id: "SCRIPT",
+        action: Some(ArgAction::Append),
+        help: "A file of statements; `-` is the standard input, which is read too where nothing else is named",
+        ..FLAG
+    },
+];
+
+/// Returns a described argument.
+fn argument<'a>(alloc: Global, described: Described<'a>) -> Arg<'a>
+    ensures rule { rule_of result ≡ rule_told described.entry }
     ensures here { result.global ≡ false }
 {
-    Arg::new(alloc, "bail")
-        .long("bail")
-        .action(ArgAction::SetTrue)
-        .help("Stop at the first refused statement")
+    let arg = Arg::new(alloc, described.id).help(described.help);
+    let arg = match described.long {
+        Some(long) => arg.long(long),
+        None => arg,
+    };
+    let arg = match described.short {
+        Some(short) => arg.short(short),
+        None => arg,
+    };
+    let arg = match described.action {
+        Some(action) => arg.action(action),
+        None => arg,
+    };
+    match described.value {
+        Some(name) => arg.value_name(name),
+        None => arg,
+    }
 }
 
-/// The flag `--interactive`, or `-i`.
-fn interactive_flag<'a>(alloc: Global) -> Arg<'a>
-    ensures rule { rule_of result ≡ interactive_rule }
-    ensures here { result.global ≡ false }
+/// Adds the described arguments to a command, in their order.
+fn with_arguments<'a>(
+    alloc: Global,
+    mut command: Command<'a>,
+    arguments: &[Described<'a>],
+) -> Result<Command<'a>, AllocError>
+    ensures { IfOk result (λ made. IsGiven (app_of command.entry) arguments.now (app_of made)) }
 {
-    Arg::new(alloc, "interactive")
-        .short('i')
-        .long("interactive")
-        .action(ArgAction::SetTrue)
-        .help("Read the standard input after each SCRIPT and TEXT")
-}
-
-/// The flag `--quiet`, or `-q`.
-fn quiet_flag<'a>(alloc: Global) -> Arg<'a>
-    ensures rule { rule_of result ≡ quiet_rule }
-    ensures here { result.global ≡ false }
-{
-    Arg::new(alloc, "quiet")
-        .short('q')
-        .long("quiet")
-        .action(ArgAction::SetTrue)
-        .help("Write no line to the standard error for a refused statement")
-}
-
-/// The flag `--plans`.
-fn plans_flag<'a>(alloc: Global) -> Arg<'a>
-    ensures rule { rule_of result ≡ plans_rule }
-    ensures here { result.global ≡ false }
-{
-    Arg::new(alloc, "plans")
-        .long("plans")
-        .action(ArgAction::SetTrue)
-        .help("Write the access paths of each query to the standard error")
-}
-
-/// The option `--memory SIZE`.
-fn memory_option<'a>(alloc: Global) -> Arg<'a>
-    ensures rule { rule_of result ≡ memory_rule }
-    ensures here { result.global ≡ false }
-{
-    Arg::new(alloc, "memory")
-        .long("memory")
-        .value_name("SIZE")
-        .help("Refuse what would take more than SIZE bytes of memory; SIZE may end in K, M or G")
-}
-
-/// The option `--format FORMAT`.
-fn format_option<'a>(alloc: Global) -> Arg<'a>
-    ensures rule { rule_of result ≡ format_rule }
-    ensures here { result.global ≡ false }
-{
-    Arg::new(alloc, "format")
-        .long("format")
-        .value_name("FORMAT")
-        .help(
-            "Write replies as table, box, csv, json or jsonl; the default is box at a terminal, else table",
-        )
-}
-
-/// The option `--command TEXT`, or `-c TEXT`.
-fn command_option<'a>(alloc: Global) -> Arg<'a>
-    ensures rule { rule_of result ≡ command_rule }
-    ensures here { result.global ≡ false }
-{
-    Arg::new(alloc, "command")
-        .short('c')
-        .long("command")
-        .value_name("TEXT")
-        .action(ArgAction::Append)
-        .help("Run TEXT as a script; its last statement needs no `;`")
-}
-
-/// The words SCRIPT.
-fn script_words<'a>(alloc: Global) -> Arg<'a>
-    ensures rule { rule_of result ≡ script_rule }
-    ensures here { result.global ≡ false }
-{
-    Arg::new(alloc, "SCRIPT").action(ArgAction::Append).help(
-        "A file of statements; `-` is the standard input, which is read too where nothing else is named",
-    )
+    for described in arguments {
+        command = command.arg(argument(alloc, *described))?;
+    }
+    Ok(command)
 }
 
 /// The rules of `tql [OPTIONS] [SCRIPT]...`, with `--help` and `--version`.
@@ -273,17 +294,8 @@ fn rules<'a>(alloc: Global) -> Result<Command<'a>, AllocError>
     let command = Command::new(alloc, "tql")
         .version(VERSION)
         .about("Runs scripts of SQL over tables in memory that keep every version of their rows")
-        .after_help(NOTES)
-        .arg(check_flag(alloc))?
-        .arg(bail_flag(alloc))?
-        .arg(interactive_flag(alloc))?
-        .arg(quiet_flag(alloc))?
-        .arg(plans_flag(alloc))?
-        .arg(memory_option(alloc))?
-        .arg(format_option(alloc))?
-        .arg(command_option(alloc))?
-        .arg(script_words(alloc))?;
-    Ok(command)
+        .after_help(NOTES);
+    with_arguments(alloc, command, &ARGUMENTS)
 }
 
 /// Returns the values of an argument, in the order of the words.
