@@ -46,7 +46,7 @@ module _ (rows : List Row) (os ns : List ℕ) (before_runs after_runs : List (Li
           (subst (λ size. is_kept ns after_runs (first_place size (digest 0 row)) k ≡ true) (sym len)
           (subst (λ h. is_kept ns after_runs (first_place (length os) h) k ≡ true) (right ∙ ap (digest 0) itself) now))
 
--- a row behind the others
+-- a row after the others
 pub filed_behind : (rows all : List Row) (os ns : List ℕ) (before_runs after_runs : List (List ℕ)) (k d : ℕ) (r : Row)
     → all ≡ rows ++ r ∷ [] → k ≡ length rows → d ≡ digest 0 r → length ns ≡ length os
     → is_kept ns after_runs (first_place (length os) d) k ≡ true

@@ -19,7 +19,7 @@ use Rattle.tql_exec_numbered.specs.Runs.{AreBelow, AreRuns, IsRun}
 itself : (n : ℕ) → nat_eq n n ≡ true
 itself n = by_bool (nat_eq n n) (λ e. e) (λ e. absurd (eqb-false n n e refl))
 
--- a number among those in front or behind
+-- a number in the first or the second of two lists
 pub in_front : (n : ℕ) (xs ys : List ℕ) → has_number n xs ≡ true → has_number n (xs ++ ys) ≡ true
 in_front n xs ys e = list_any-append (nat_eq n) xs ys ∙ or_left (has_number n xs) (has_number n ys) e
 
@@ -29,7 +29,7 @@ in_back n xs ys e = list_any-append (nat_eq n) xs ys ∙ or_right (has_number n 
 pub alone : (n : ℕ) → has_number n (n ∷ []) ≡ true
 alone n = or_left (nat_eq n n) false (itself n)
 
--- the runs with one behind them
+-- the runs, followed by one more
 pub runs_behind : (n : ℕ) (rs : List (List ℕ)) (run : List ℕ)
     → (is_in_runs n rs || has_number n run) ≡ true → is_in_runs n (rs ++ run ∷ []) ≡ true
 runs_behind n rs run e = list_any-append (has_number n) rs (run ∷ [])
@@ -86,7 +86,7 @@ run_before_row rows r run is = (
 pub runs_before_row : (rows : List Row) (r : Row) (rs : List (List ℕ)) → AreRuns rows rs → AreRuns (rows ++ r ∷ []) rs
 runs_before_row rows r rs all k d within = run_before_row rows r (get_or rs k d) (all k d within)
 
--- ---- the runs that stay, and one behind them
+-- ---- the runs that stay, followed by one more
 
 pub numbers_behind : {A : Type 0} (vs : List (Vec ℕ A)) (stay : ℕ) (run : Vec ℕ A)
     → numbers_in (take stay vs ++ run ∷ []) ≡ take stay (numbers_in vs) ++ run.items ∷ []

@@ -37,7 +37,7 @@ module _ (rows : List Row) (x : Row) (run : List ℕ) (is : IsRun rows run) wher
   rising : IsNonDecreasingBy (λ n. ordering_index (by_row rows x n)) run
   rising = searchable_from_sorted by_columns-total (row_at rows) run x is.1
 
-  -- what stands at a place that is equal
+  -- the row of the number at an index where the search found an equal one
   pub found : (i n : ℕ) → i < length run → n ≡ get_or run i n → HoldsAt (λ m. by_row rows x m ≡ Equal) run i
       → slice_get rows n ≡ Some x
   found i n within at equal =
@@ -48,7 +48,7 @@ module _ (rows : List Row) (x : Row) (run : List ℕ) (is : IsRun rows run) wher
   tied : (n : ℕ) → slice_get rows n ≡ Some x → by_row rows x n ≡ Equal
   tied n got = ap (λ y. by_columns y x) (get_or_from_slice_get rows n x [] got) ∙ tied_itself by_columns-total x
 
-  -- no number of the row stands between the less and the greater ones
+  -- no number of the row is between the lesser and the greater ones
   pub absent : (i : ℕ)
       → (IsNonDecreasingBy (λ m. ordering_index (by_row rows x m)) run
       → IsPartitionPoint (λ m. by_row rows x m ≡ Less) (λ m. by_row rows x m ≡ Greater) run i)

@@ -100,7 +100,7 @@ module _ (slots : List ℕ) where
 
   -- ---- one slot after another
 
-  -- so many slots, of which one is taken off
+  -- one slot less
   pub one_less : (more : ℕ) → 0 < more → more ≡ suc (more - 1)
   one_less zero l = absurd (omega arith)
   one_less (suc more) l = omega arith

@@ -9,7 +9,7 @@ use Rattle.tql_value.specs.declared.value.View.{View}
 abbrev pub seen : List View → Row
 seen views = map datum_of_view views
 
--- these rows, and the row behind them unless it is among them
+-- these rows, followed by the row unless it is among them
 abbrev pub with_row : List Row → Row → List Row
 with_row rows row = if list_any (same_row row) rows then rows else rows ++ row ∷ []
 

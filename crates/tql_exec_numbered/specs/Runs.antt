@@ -1,4 +1,4 @@
--- Runs of numbers of rows. Each run is sorted by the rows that its numbers stand for.
+-- Runs of row numbers. Each run is sorted by the rows with these numbers.
 use Rattle.std.specs.Prelude.{ℕ, ◌<◌, Bool, List, [], All, map, length, nat_eq, slice_index_or, Vec}
 use Rattle.std.specs.List.{list_any}
 use Rattle.std.specs.List.Sorted.{IsSortedBy}
@@ -18,7 +18,7 @@ row_at rows n = slice_index_or rows n []
 abbrev pub has_number : ℕ → List ℕ → Bool
 has_number n run = list_any (nat_eq n) run
 
--- whether it is in one of several
+-- whether a number is in one of several runs
 abbrev pub is_in_runs : ℕ → List (List ℕ) → Bool
 is_in_runs n runs = list_any (has_number n) runs
 
@@ -26,11 +26,11 @@ is_in_runs n runs = list_any (has_number n) runs
 abbrev pub AreBelow : ℕ → List ℕ → Type 0
 AreBelow bound run = All (λ n. n < bound) run
 
--- no number's row is less than that of the number before it
+-- the rows with these numbers are in order: none is less than the row before it
 abbrev pub AreInOrder : List Row → List ℕ → Type 0
 AreInOrder rows run = IsSortedBy (λ a b. is_lt (by_columns (row_at rows a) (row_at rows b))) run
 
--- a run is sorted, and has the numbers of rows alone
+-- each number in a run is that of a row, and the run is sorted
 abbrev pub IsRun : List Row → List ℕ → Type 0
 IsRun rows run = AreBelow (length rows) run × AreInOrder rows run
 

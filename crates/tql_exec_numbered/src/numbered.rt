@@ -1,9 +1,9 @@
 //! Rows of values that are kept once each, and numbered in the order in which they first came: the keys of groups, and
 //! the rows of a query with DISTINCT.
 //!
-//! A row is found by a table of slots, in which its digest says where to begin. It is sought in a few slots at most, up
-//! to the first empty one. Rows for which there was no empty slot among these stand in sorted runs, where they are
-//! found by halving. There are many of these only if many rows were chosen to have their slots in one place.
+//! Rows are looked up in a hash table with linear probing. The digest of a row gives its first slot, and a look-up
+//! reads up to `WINDOW` slots, or to the first empty one. Row numbers for which all of these slots were taken are in
+//! sorted runs, which are searched by binary search. There are many of them only if rows were chosen to collide.
 ghost use Rattle.std.specs.Prelude.{◌≡◌, ◌≢◌, ◌+◌, ◌<◌, ◌^◌, ◌↔◌, IfNone, IfOk, IfSome, IsTrue, length, ℕ};
 ghost use Rattle.std.specs.Prelude.{false, slice_get, OnErr, OnOk, Some, true};
 ghost use Rattle.tql_value.specs.Views.{rows_of};
@@ -20,14 +20,14 @@ use tql_memory::Memory;
 use tql_value::refusal::Refusal;
 use tql_value::value::{Value, View};
 
-/// The number of slots in which a row is sought.
+/// The maximum number of slots that a look-up reads.
 const WINDOW: usize = 16;
 
 /// The number of slots of the smallest table.
 const FEWEST: usize = 64;
 
-/// Returns the place at which a digest is first sought, among this number of slots. If their number is a power of two,
-/// it is given by the high bits of the digest.
+/// Returns the first slot of a digest, in a table of this number of slots. If that number is a power of two, these are
+/// high bits of the digest.
 #[inline(always)]
 fn first_place(size: usize, digest: u64) -> usize
     ensures { result ≡ place_of size digest }
@@ -35,7 +35,7 @@ fn first_place(size: usize, digest: u64) -> usize
     ((digest >> 32) as usize) & size.saturating_sub(1)
 }
 
-/// Whether the row with a number is this row.
+/// Whether the row with a number equals this row.
 #[inline(always)]
 fn agrees_at(rows: &[Vec<Value, Memory>], number: usize, row: &[View<'_>]) -> bool
     ensures { IsTrue result ↔ (slice_get (rows_of rows.now) number ≡ Some (seen row.now)) }
@@ -46,7 +46,7 @@ fn agrees_at(rows: &[Vec<Value, Memory>], number: usize, row: &[View<'_>]) -> bo
     }
 }
 
-/// Returns the number of this row, which has this digest, if it has a slot.
+/// Returns the number of a row with this digest, if it is in one of its slots.
 #[inline(always)]
 fn met_number(
     rows: &[Vec<Value, Memory>],
@@ -74,7 +74,7 @@ fn met_number(
     None
 }
 
-/// Returns the number of this row, which has this digest.
+/// Returns the number of a row with this digest, if it is among the rows.
 #[inline(always)]
 fn number_of(
     rows: &[Vec<Value, Memory>],
@@ -112,8 +112,8 @@ fn free_place(slots: &[usize], digest: u64) -> Option<usize>
     None
 }
 
-/// Writes the number of a row with this digest into the first empty slot for it, or adds it to the runs if there is
-/// none. The only error is a refused allocation, and leaves both as they were.
+/// Writes the number of a row with this digest into the first empty slot for it, or adds it to the runs if all of its
+/// slots are taken. The only error is a refused allocation, and leaves both as they were.
 fn file(
     memory: Memory,
     rows: &[Vec<Value, Memory>],
@@ -166,7 +166,8 @@ fn file_all(
     Ok(())
 }
 
-/// Rows of values, each once: NULL is equal to NULL. Contracts see them in the order in which they first came.
+/// Rows of values without repeats, where NULL equals NULL. In contracts it is the list of these rows, in the order in
+/// which they first came.
 pub struct Numbered {
     memory: Memory,
     rows: Vec<Vec<Value, Memory>, Memory>,
@@ -236,7 +237,8 @@ impl Numbered {
         &self.rows[number]
     }
 
-    /// Makes room in the table for one more row: a half of the slots stays empty.
+    /// Makes room in the table for one more row, so that half of the slots stay empty. The only error is a refused
+    /// allocation.
     fn make_room(&mut self) -> Result<(), AllocError>
         ensures { self.new ≡ self.old }
     {
@@ -253,7 +255,8 @@ impl Numbered {
         Ok(())
     }
 
-    /// Puts a row, which has this digest and is not among the rows, behind them.
+    /// Appends a row that has this digest and is not among the rows. Returns its number. The only error is a refused
+    /// allocation, and leaves the rows as they were.
     #[inline(never)]
     fn add(&mut self, digest: u64, row: &[View<'_>]) -> Result<usize, Refusal>
         requires { digest ≡ digest_from 0 (seen row.now) }
@@ -283,9 +286,9 @@ impl Numbered {
         }
     }
 
-    /// Returns the number of the row with these values, which is put behind the others if it is not among them. For a
-    /// row that is among them no allocation is made. The only error is a refused allocation, and leaves the rows as
-    /// they were.
+    /// Returns the number of the row with these values, which is appended if it is not among the rows. Makes no
+    /// allocation for a row that is among them. The only error is a refused allocation, and leaves the rows as they
+    /// were.
     pub fn put(&mut self, row: &[View<'_>]) -> Result<usize, Refusal>
         ensures rows { OnOk result (self.new ≡ with_row self.old (seen row.now)) }
         ensures number { IfOk result (λ n. slice_get self.new n ≡ Some (seen row.now)) }

@@ -1,9 +1,7 @@
-//! Runs of numbers of rows, in which a row is found by halving. Each run is sorted by the rows that its numbers stand
-//! for.
+//! Runs of row numbers. Each run is sorted by the rows with these numbers, and searched by binary search.
 //!
-//! A new number is joined with those of the last runs, as long as none of them is longer than what came behind it, and
-//! these are sorted as one run. So there are few runs, and a number is sorted again only if its run grows to twice its
-//! length.
+//! A new number is merged with the last runs, as long as the next one is not longer than those merged so far, and the
+//! result is sorted as one run. So there are few runs, and a number is sorted again only if its run at least doubles.
 ghost use Rattle.std.specs.Prelude.{◌≡◌, ◌≢◌, ◌++◌, ◌∷◌, [], ◌<◌, ◌≤◌, ◌||◌, ℕ, IfNone, IfOk, IfSome, OnErr, OnOk};
 ghost use Rattle.std.specs.Prelude.{length, slice_get, Some, take, true};
 ghost use Rattle.std.specs.List.Sorted.{IsPermutation};
@@ -62,8 +60,8 @@ pub(crate) fn find(
     }
 }
 
-/// Appends to a run the numbers of the last runs, as long as none of them is longer than it. Returns how many of the
-/// runs stay. The only error is a refused allocation.
+/// Appends to a run the numbers of the last runs, as long as the next one is not longer than it. Returns the number of
+/// runs before these. The only error is a refused allocation.
 fn join(runs: &[Vec<usize, Memory>], run: &mut Vec<usize, Memory>) -> Result<usize, AllocError>
     ensures bound { IfOk result (λ stay. stay ≤ length runs.now) }
     ensures old { IfOk result (λ _. (n : ℕ) → has_number n run.old.items ≡ true → has_number n run.new.items ≡ true) }
@@ -81,7 +79,7 @@ fn join(runs: &[Vec<usize, Memory>], run: &mut Vec<usize, Memory>) -> Result<usi
     }
 }
 
-/// Sorts numbers by the rows that they stand for.
+/// Sorts row numbers by the rows with these numbers.
 fn sort(rows: &[Vec<Value, Memory>], run: &mut Vec<usize, Memory>)
     ensures sorted { AreInOrder (rows_of rows.now) run.new.items }
     ensures same { IsPermutation run.old.items run.new.items }
@@ -89,8 +87,8 @@ fn sort(rows: &[Vec<Value, Memory>], run: &mut Vec<usize, Memory>)
     run.sort_unstable_by(|a, b| compare(values_at(rows, *a), values_at(rows, *b)));
 }
 
-/// Puts a run in the place of all but the first of these runs. The only error is a refused allocation, and leaves the
-/// runs as they were.
+/// Replaces all but the first `stay` runs by a run. The only error is a refused allocation, and leaves the runs as they
+/// were.
 fn put_behind(
     runs: &mut Vec<Vec<usize, Memory>, Memory>,
     stay: usize,
@@ -109,7 +107,7 @@ fn put_behind(
     Ok(())
 }
 
-/// Adds a number of a row to the runs. The only error is a refused allocation, and leaves the runs as they were.
+/// Adds a row number to the runs. The only error is a refused allocation, and leaves the runs as they were.
 pub(crate) fn add(
     memory: Memory,
     rows: &[Vec<Value, Memory>],

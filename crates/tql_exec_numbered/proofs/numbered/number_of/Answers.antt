@@ -1,4 +1,4 @@
--- A row that is not met in the slots stands in a run.
+-- A row whose number is in none of its slots is in a run.
 use Rattle.std.proofs.Common.{◌≡◌, ◌∙◌, ap, false, length, subst, sym, true}
 use Rattle.std.specs.Prelude.{◌||◌}
 use Rattle.tql_value.specs.Views.{rows_of}
