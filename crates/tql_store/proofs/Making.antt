@@ -29,11 +29,11 @@ kept-versions i n ts old new q is e = put-versions ts i new (e ∙ ap versions i
 
 pub kept-rest : (m : ℤ) (i n : ℕ) (ts : List TableModel) (old new : TableModel) → i ≡ n → n < length ts
     → old ≡ table_at ts n
-    → InTurn m new → new ≡ record old { room = new.room; entries = new.entries } → SameBag new.entries old.entries
+    → InTurn m new → new ≡ record old { room = new.room }
     → (last : Option ℤ) → AtRest last (table_at ts n) → AtRest last (table_at (slice_set ts i new) n)
-kept-rest m i n ts old new q l is t e es last r =
+kept-rest m i n ts old new q l is t e last r =
     subst (AtRest last) (sym (here-at ts i n new q l))
-    (refused-rest m last old new t e es (subst (AtRest last) (sym is) r))
+    (refused-rest m last old new t e (subst (AtRest last) (sym is) r))
 
 pub ok-versions : {R : Type 0} (cells : R
     → List Datum) (rs : List R) (m m' : ℤ) (i n : ℕ) (ts : List TableModel) (old new : TableModel) (removed is : List ℕ)

@@ -1,101 +1,50 @@
 -- Pruning each table of a store.
-use Rattle.std.proofs.Common.{◌≡◌, ℕ, zero, suc, ◌+◌, ◌<◌, ◌≤◌, Bool, true, false, List, [], ◌∷◌, ◌++◌, map, length}
-use Rattle.std.proofs.Common.{get_or, set, length-append, refl, sym, ap, subst, ◌∙◌, arith, inl, inr}
+use Rattle.std.proofs.Common.{◌≡◌, ℕ, zero, suc, ◌+◌, ◌<◌, ◌≤◌, Bool, true, false, List, [], ◌∷◌, map, length}
+use Rattle.std.proofs.Common.{get_or, set, refl, sym, ap, subst, ◌∙◌, arith, inl, inr}
 use Rattle.std.specs.Prelude.{ℤ, IsNone, Option, None, Some, if◌then◌else◌}
 use Rattle.std.proofs.lemmas.Bool.{cases_lt}
-use Rattle.std.proofs.lemmas.List.{get_or_append_left, get_or_default, get_or-set_other, get_or-set_same, length-set}
+use Rattle.std.proofs.lemmas.List.{get_or_default, get_or-set_other, get_or-set_same, length-set}
 use Rattle.tql_spec.proofs.Members.{by_bool}
 use Rattle.tql_spec.specs.Bag.{SameBag}
 use Rattle.tql_spec.specs.Definition.{Version}
 use Rattle.tql_store_rows.proofs.Leaving.{kept_pruned}
 use Rattle.tql_versions.specs.Changes.{left_by}
-use Rattle.tql_store_rows.specs.Pruned.{IsPruned, IsPruning, Pruning}
+use Rattle.tql_store_rows.specs.Pruned.{IsPruned}
 use Rattle.tql_store_rows.specs.TableModel.{TableModel, versions}
 use Rattle.tql_store_rows.specs.TableModel as rows
 use Rattle.tql_store.proofs.Storing.{live-of, live-shown, same-list, shown}
-use Rattle.tql_store.specs.Orderly.{empty, table_at, pruning_at, AreMade, ArePruned, IsOrderly}
+use Rattle.tql_store.specs.Orderly.{empty, table_at, ArePruned, IsOrderly}
 use Rattle.tql_store.specs.StoreModel.{StoreModel, live}
 use Rattle.tql_store.specs.TableSlots.{slot_at, is_brief, is_kept}
 use Rattle.tql_store.specs.declared.tables.TableSlot.{TableSlot}
 use Rattle.tql_store.specs.declared.tables.TableSlot.TheVariants.{Free, Versioned, Unversioned}
 
--- ---- new indexes are built for one table after another
-
-at_end : (ps : List (Option Pruning)) (p : Option Pruning) → pruning_at (ps ++ p ∷ []) (length ps) ≡ p
-at_end [] p = refl
-at_end (q ∷ ps) p = at_end ps p
-
-pub made_more : (h : ℤ) (tables : List TableModel) (old new : List (Option Pruning)) (k : ℕ) (p : Option Pruning)
-    (x : TableModel) → length old ≡ k → new ≡ old ++ p ∷ [] → x ≡ table_at tables k → IsPruning h x.closed p
-    → ((t : ℕ) → t < k → IsPruning h (table_at tables t).closed (pruning_at old t)) → (t : ℕ) → t < k + 1
-    → IsPruning h (table_at tables t).closed (pruning_at new t)
-made_more h tables old new k p x size pushed read made each t l = elim (cases_lt t k) [
-  | inl a ↦ subst (IsPruning h (table_at tables t).closed)
-      (sym (ap (λ ps. pruning_at ps t) pushed
-      ∙ get_or_append_left old (p ∷ []) None t (omega (arith, a, size)))) (each t a)
-  | inr b ↦
-      let here : length old ≡ t = omega (arith, b, l, size) in
-      subst (IsPruning h (table_at tables t).closed)
-      (sym (ap (λ ps. pruning_at ps t) pushed ∙ ap (pruning_at (old ++ p ∷ [])) (sym here) ∙ at_end old p))
-      (subst (λ (y : TableModel). IsPruning h y.closed p)
-      (read ∙ ap (table_at tables) (sym size ∙ here)) made)
-]
-
-pub made_size : (old new : List (Option Pruning)) (k : ℕ) (p : Option Pruning) → length old ≡ k → new ≡ old ++ p ∷ []
-    → length new ≡ k + 1
-made_size old new k p size pushed = let e = ap length pushed in omega (arith, e, length-append old (p ∷ []), size)
-
-pub made_all : (h h' : ℤ) (tables : List TableModel) (prunings : List (Option Pruning)) (k : ℕ) → h' ≡ h
-    → k ≤ length tables → length tables ≤ k → length prunings ≡ k
-    → ((t : ℕ) → t < k → IsPruning h' (table_at tables t).closed (pruning_at prunings t)) → AreMade h tables prunings
-made_all h h' tables prunings k at most all size each =
-    subst (λ (x : ℤ). AreMade x tables prunings) at
-    (record { even = omega (arith, most, all, size); each = λ t l. each t (omega (arith, all, l)) })
-
 -- ---- one table after another is pruned
 
 -- the first `n` tables are pruned
-pub record HavePruned (h : ℤ) (n : ℕ) (old new : List TableModel) (first left : List (Option Pruning)) : Type 0 where
+pub record HavePruned (h : ℤ) (n : ℕ) (old new : List TableModel) : Type 0 where
   pub even : length new ≡ length old
-  pub slots : length left ≡ length first
   pub done : (t : ℕ) → t < n → IsPruned h (table_at old t) (table_at new t)
   pub others : (t : ℕ) → n ≤ t → table_at new t ≡ table_at old t
-  pub wait : (t : ℕ) → n ≤ t → pruning_at left t ≡ pruning_at first t
 
-pub none_pruned : (h : ℤ) (tables : List TableModel) (prunings : List (Option Pruning))
-    → HavePruned h 0 tables tables prunings prunings
-none_pruned h tables prunings = record {
+pub none_pruned : (h : ℤ) (tables : List TableModel) → HavePruned h 0 tables tables
+none_pruned h tables = record {
   even = refl;
-  slots = refl;
   done = λ t l. absurd (omega (arith, l));
   others = λ t l. refl;
-  wait = λ t l. refl;
 }
 
--- the next table has the right new indexes for its closed versions
-pub made_here : (h h' : ℤ) (n : ℕ) (old now : List TableModel) (first left : List (Option Pruning)) (x d : TableModel)
-    (p r : Option Pruning) → h' ≡ h → AreMade h old first → HavePruned h' n old now first left → n < length now
-    → x ≡ get_or now n d → p ≡ get_or left n r → n < length left → IsPruning h' x.closed p
-made_here h h' n old now first left x d p r at made k l read take m =
-    subst (λ (y : ℤ). IsPruning y x.closed p) (sym at)
-    (subst (λ (y : TableModel). IsPruning h y.closed p)
-    (sym (read ∙ get_or_default now n d (empty false) l ∙ k.others n (omega arith)))
-    (subst (IsPruning h (table_at old n).closed)
-    (sym (take ∙ get_or_default left n r None m ∙ k.wait n (omega arith)))
-    (made.each n (let e = k.even in omega (arith, e, l)))))
+-- no version of the next table is recorded as ended
+pub ended_here : (h : ℤ) (n : ℕ) (old now : List TableModel) (x d : TableModel)
+    → ((t : ℕ) → (table_at old t).ended ≡ []) → HavePruned h n old now → n < length now → x ≡ get_or now n d
+    → x.ended ≡ []
+ended_here h n old now x d none k l read =
+    ap (λ (y : TableModel). y.ended) (read ∙ get_or_default now n d (empty false) l ∙ k.others n (omega arith)) ∙ none n
 
--- the list of new indexes has an element for each table
-pub slot_each : (h h' : ℤ) (n : ℕ) (old now : List TableModel) (first left : List (Option Pruning))
-    → AreMade h old first → HavePruned h' n old now first left → n < length now → n < length left
-slot_each h h' n old now first left made k l =
-    let a = made.even in let b = k.even in let c = k.slots in omega (arith, a, b, c, l)
-
-pub one_pruned : (h : ℤ) (n : ℕ) (old now : List TableModel) (first left : List (Option Pruning)) (x : TableModel)
-    (p : Option Pruning) (d : TableModel) → n < length now → IsPruned h (get_or now n d) x
-    → HavePruned h n old now first left → HavePruned h (n + 1) old (set now n x) first (set left n p)
-one_pruned h n old now first left x p d l pruned k = record {
+pub one_pruned : (h : ℤ) (n : ℕ) (old now : List TableModel) (x d : TableModel) → n < length now
+    → IsPruned h (get_or now n d) x → HavePruned h n old now → HavePruned h (n + 1) old (set now n x)
+one_pruned h n old now x d l pruned k = record {
   even = length-set now n x ∙ k.even;
-  slots = length-set left n p ∙ k.slots;
   done = λ t a. elim (cases_lt t n) [
     | inl b ↦ subst (IsPruned h (table_at old t))
         (sym (get_or-set_other now n t x (empty false) (λ e. omega (arith, e, b)))) (k.done t b)
@@ -107,7 +56,6 @@ one_pruned h n old now first left x p d l pruned k = record {
         (get_or_default now n d (empty false) l ∙ k.others n (omega arith)) pruned))
   ];
   others = λ t a. get_or-set_other now n t x (empty false) (λ e. omega (arith, e, a)) ∙ k.others t (omega (arith, a));
-  wait = λ t a. get_or-set_other left n t p None (λ e. omega (arith, e, a)) ∙ k.wait t (omega (arith, a));
 }
 
 beyond : (ts : List TableModel) (t : ℕ) → length ts ≤ t → table_at ts t ≡ empty false
@@ -115,9 +63,9 @@ beyond [] t l = refl
 beyond (x ∷ ts) zero l = absurd (omega (arith, l))
 beyond (x ∷ ts) (suc t) l = beyond ts t (omega (arith, l))
 
-pub all_pruned : (h h' : ℤ) (n : ℕ) (old new : List TableModel) (first left : List (Option Pruning)) → h' ≡ h
-    → length new ≤ n → HavePruned h' n old new first left → ArePruned h old new
-all_pruned h h' n old new first left at l k = subst (λ (x : ℤ). ArePruned x old new) at (record {
+pub all_pruned : (h h' : ℤ) (n : ℕ) (old new : List TableModel) → h' ≡ h → length new ≤ n → HavePruned h' n old new
+    → ArePruned h old new
+all_pruned h h' n old new at l k = subst (λ (x : ℤ). ArePruned x old new) at (record {
   even = k.even;
   each = λ t. elim (cases_lt t n) [
     | inl a ↦ k.done t a

@@ -10,11 +10,10 @@ use Rattle.tql_spec.specs.Bag.{SameBag}
 use Rattle.tql_spec.specs.Calendar.{high}
 use Rattle.tql_spec.specs.Datum.{Datum}
 use Rattle.tql_spec.specs.Definition.{Stamped, Version}
-use Rattle.tql_index.specs.Entry.{Entry}
 use Rattle.tql_store_rows.proofs.Beginning.{begin-turn}
 use Rattle.tql_versions.specs.Changes.{alive, closing, fresh, is_current, pruned, replaced, undone}
 use Rattle.tql_store_rows.specs.TableModel as rows
-use Rattle.tql_store_rows.specs.TableModel.{AtRest, InTurn, IsIndexed, IsJudged, Since, versions, noted}
+use Rattle.tql_store_rows.specs.TableModel.{AtRest, InTurn, IsJudged, Since, versions}
 use Rattle.tql_store_rows.specs.Readings.{AreEnded}
 use Rattle.tql_store.proofs.Numbers.{one_number, self_number, versions-at}
 use Rattle.tql_store.proofs.Turning.{before, empty-rest, by_number, each-committed, each-undone, commit-bag}
@@ -60,22 +59,16 @@ live-of tables h t is = ap (filter alive) (versions-of tables h t (table_at tabl
 
 -- ---- what the readings of its tables need
 
--- the index of a table has its closed versions, and these have ended
+-- the closed versions of a table have ended
 pub record IsReadable (h : rows.TableModel) : Type 0 where
-  pub rest : List Entry
-  pub indexed : IsIndexed h rest
   pub ended : AreEnded h
 
 pub readable-at : (places : List TableSlot) (tables : List rows.TableModel) (touched : List ℕ) (working last : Option ℤ)
     → IsOrderly places tables touched working last → (t : ℕ) → IsReadable (table_at tables t)
 readable-at places tables touched None last o t = record {
-  rest = [];
-  indexed = (o.ready.rest t).indexed;
   ended = λ v i. before last high v.end o.ready.below ((o.ready.rest t).since.ended v i);
 }
 readable-at places tables touched (Some m) last o t = record {
-  rest = noted m (table_at tables t);
-  indexed = (o.ready.turn t).indexed;
   ended = λ v i. let p = (o.ready.turn t).past v i in let b = o.ready.below in omega (arith, ints, p.1, b);
 }
 

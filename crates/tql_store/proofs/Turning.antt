@@ -10,7 +10,7 @@ use Rattle.std.proofs.lemmas.Bool.Decides.{Decides-int_eq}
 use Rattle.std.proofs.lemmas.Int.{ints}
 use Rattle.std.proofs.lemmas.List.{get_or_default}
 use Rattle.std.proofs.lemmas.List.Sums.{sum_by-cons}
-use Rattle.tql_spec.proofs.Bags.{same-refl, same-trans}
+use Rattle.tql_spec.proofs.Bags.{same-refl}
 use Rattle.tql_spec.proofs.Members.{by_bool}
 use Rattle.tql_spec.specs.Bag.{SameBag, In}
 use Rattle.tql_spec.specs.Calendar.{high}
@@ -49,7 +49,7 @@ rest-since last next h s r = record {
   room = r.room;
   is_open = r.is_open;
   since = s;
-  indexed = r.indexed;
+  proper = r.proper;
   kept = r.kept;
 }
 
@@ -68,11 +68,7 @@ empty-rest keeps last = record {
   room = λ e. omega arith;
   is_open = λ k l. absurd (omega (arith, l));
   since = record { began = λ k l. absurd (omega (arith, l)); ended = λ v i. absurd i };
-  indexed = record {
-    bag = same-refl [];
-    beyond = λ k d l. absurd (omega (arith, l));
-    proper = λ k d l. absurd (omega (arith, l));
-  };
+  proper = λ k d l. absurd (omega (arith, l));
   kept = λ e. refl;
 }
 
@@ -360,8 +356,8 @@ refused-orderly m last n places old new touched next there o h same rest =
 
 -- a failed change leaves a table at rest
 pub refused-rest : (m : ℤ) (last : Option ℤ) (h n : TableModel) → InTurn m n
-    → n ≡ record h { room = n.room; entries = n.entries } → SameBag n.entries h.entries → AtRest last h → AtRest last n
-refused-rest m last h n t e es r = subst (AtRest last) (sym e) (record {
+    → n ≡ record h { room = n.room } → AtRest last h → AtRest last n
+refused-rest m last h n t e r = subst (AtRest last) (sym e) (record {
   none_ended = r.none_ended;
   none_dead = r.none_dead;
   all_based = r.all_based;
@@ -369,11 +365,7 @@ refused-rest m last h n t e es r = subst (AtRest last) (sym e) (record {
       ∙ k) in let c = ap (λ (x : TableModel). length x.closed) e in omega (arith, f, c);
   is_open = r.is_open;
   since = record { began = r.since.began; ended = r.since.ended };
-  indexed = record {
-    bag = same-trans es r.indexed.bag;
-    beyond = λ k d l. absurd (omega (arith, l));
-    proper = r.indexed.proper;
-  };
+  proper = r.proper;
   kept = r.kept;
 })
 

@@ -5,7 +5,7 @@ use Rattle.std.specs.Prelude.{Contains, Option, Some, None, ℤ, ◌<ℤ◌, if�
 use Rattle.tql_spec.specs.Bag.{SameBag}
 use Rattle.tql_spec.specs.Calendar.{high}
 use Rattle.tql_versions.specs.Changes.{Under, pruned, undone}
-use Rattle.tql_store_rows.specs.Pruned.{IsPruned, IsPruning, Pruning}
+use Rattle.tql_store_rows.specs.Pruned.{IsPruned}
 use Rattle.tql_store_rows.specs.TableModel as rows
 use Rattle.tql_store_rows.specs.TableModel.{AtRest, InTurn, Since}
 use Rattle.tql_store.specs.TableSlots.{slot_at, is_kept}
@@ -24,7 +24,6 @@ empty keeps = record {
   dead = [];
   closed = [];
   room = 0;
-  entries = [];
 }
 
 -- the table with a number; past the end, one without versions
@@ -89,15 +88,6 @@ pub record HaveEnded (Ends : rows.TableModel → rows.TableModel
   pub others : (t : ℕ) → ((k : ℕ) → k < n → touch_at touched k ≢ t) → table_at new t ≡ table_at old t
 
 -- ---- the effect of a horizon
-
--- the new indexes for a table number; none if its closed versions are all kept
-abbrev pub pruning_at : List (Option Pruning) → ℕ → Option Pruning
-pruning_at prunings t = slice_index_or prunings t None
-
--- the new indexes of each table are right for its closed versions
-pub record AreMade (h : ℤ) (tables : List rows.TableModel) (prunings : List (Option Pruning)) : Type 0 where
-  pub even : length prunings ≡ length tables
-  pub each : (t : ℕ) → t < length tables → IsPruning h (table_at tables t).closed (pruning_at prunings t)
 
 -- each table is pruned
 pub record ArePruned (h : ℤ) (old new : List rows.TableModel) : Type 0 where

@@ -31,7 +31,7 @@ ghost use Rattle.tql_value.specs.When.{is_now, when_of};
 ghost use Rattle.tql_value.specs.declared.refusal.Refusal.TheVariants.{OutOfMemory};
 
 use crate::asking::{question_at, versions_at};
-use crate::pruning::{prune_each, prunings_of};
+use crate::pruning::prune_each;
 use crate::tables::{TableSlot, clear_place, free_table, place_at, put_table, taken_count};
 use crate::turns::{commit_each, note, put_rows, set_rows, undo_each};
 use std::alloc::AllocError;
@@ -364,26 +364,22 @@ impl<I: IntervalIndex> Store<I> {
     }
 
     /// Removes history (this project's addition): from each table with history, the closed versions that end at or
-    /// before the horizon. The horizon, in microseconds since 1970-01-01, may be later than the last commit. Time is
-    /// proportional to the number of closed versions of all tables, times a logarithm. Frees the removed rows. Fails if
-    /// out of memory; then no table is changed.
-    pub fn prune(&mut self, horizon: i64) -> Result<(), Refusal>
+    /// before the horizon. The horizon, in microseconds since 1970-01-01, may be later than the last commit. Frees the
+    /// removed rows, and allocates no memory. Looks at each closed version of all tables once; for each one that is
+    /// removed, the time is a logarithm of their number.
+    pub fn prune(&mut self, horizon: i64)
         requires closed { IsNone self.old.working }
         requires later { self.old.horizon ≤ℤ horizon }
         ensures tables { self.new.tables ≡ self.old.tables }
         ensures working { self.new.working ≡ self.old.working }
         ensures last { self.new.last ≡ self.old.last }
-        ensures horizon { OnOk result (self.new.horizon ≡ horizon) }
-        ensures versions { OnOk result ((t : ℕ) → SameBag (live self.new t)
-            (if is_brief (slot_at self.old.tables t) then live self.old t else left_by horizon (live self.old t))) }
-        ensures copies { OnOk result (PrunesCopies horizon self.old self.new) }
-        ensures err { OnErr result (self.new ≡ self.old) }
-        ensures memory { IfErr result (λ e. e ≡ OutOfMemory) }
+        ensures horizon { self.new.horizon ≡ horizon }
+        ensures versions { (t : ℕ) → SameBag (live self.new t)
+            (if is_brief (slot_at self.old.tables t) then live self.old t else left_by horizon (live self.old t)) }
+        ensures copies { PrunesCopies horizon self.old self.new }
     {
-        let mut prunings = prunings_of(self.memory, &self.rows, horizon)?;
-        prune_each(&mut self.rows, &mut prunings, horizon);
+        prune_each(&mut self.rows, horizon);
         self.horizon = horizon;
-        Ok(())
     }
 
     /// Returns the versions of a table selected by FOR SYSTEM_TIME (ISO/IEC 9075-2:2011, 7.6). For an unversioned table
@@ -430,7 +426,7 @@ impl<I: IntervalIndex> Store<I> {
         requires versioned { IsTrue (is_now (when_of when) || table_versioned self.now table) }
         ensures { IfOk result (λ found. IsFound self.now table when (is_sought (sought_of sought.entry)) found.items) }
     {
-        let found = self.rows[usize::from(table.number())].search(self.memory, when, sought)?;
+        let found = self.rows[usize::from(table.number())].search(self.memory, when, Some(sought))?;
         Ok(found)
     }
 

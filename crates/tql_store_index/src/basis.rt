@@ -1,16 +1,15 @@
 //! Index definitions, and the lookups that they serve: by column values, by period, or by both.
-ghost use Rattle.std.specs.Prelude.{◌≡◌, ◌↔◌, [], ◌∷◌, IsTrue, IfOk, option_map, map};
+ghost use Rattle.std.specs.Prelude.{◌≡◌, ◌↔◌, [], ◌∷◌, IsTrue, option_map, map};
 ghost use Rattle.tql_spec.specs.Definition.{period_between, point_of as point_for};
 ghost use Rattle.tql_spec.specs.Period.{where_rising, share_a_point};
 ghost use Rattle.tql_period.specs.Points.{points_of};
 ghost use Rattle.tql_value.specs.Views.{datum_of_value, datum_of_view};
 ghost use Rattle.tql_index.specs.Spans.{span_of};
 ghost use Rattle.tql_store_index.specs.Basis.{basis_of, filed, in_values, sought_of, Serves, stands_by, is_sought};
-ghost use Rattle.tql_store_index.specs.Basis.{is_between as between};
+ghost use Rattle.tql_store_index.specs.Basis.{ServesIf, is_between as between};
 ghost use Rattle.tql_store_index.specs.Places.{fitting_if};
 
 use crate::tuple::{cell, group_of_row, has_values, placed_if};
-use std::alloc::AllocError;
 use std::slice;
 use tql_index::span::Span;
 use tql_memory::Memory;
@@ -28,6 +27,8 @@ pub enum Basis {
     ValuesDuring(Vec<usize, Memory>),
     /// The period from the first column to the second.
     Period(usize, usize),
+    /// The period that is kept with each row outside its columns.
+    During,
 }
 
 /// A lookup: which rows to find.
@@ -116,27 +117,6 @@ fn span_alone(period: Option<Period>) -> Option<Span>
 }
 
 impl Basis {
-    /// Returns a copy of this definition, or an error if out of memory.
-    pub(crate) fn copy(&self) -> Result<Basis, AllocError>
-        ensures { IfOk result (λ b. basis_of b ≡ basis_of self.now) }
-    {
-        match self {
-            Basis::Values(columns) => {
-                let columns = columns.clone()?;
-                Ok(Basis::Values(columns))
-            }
-            Basis::ValuesIn(columns, start, end) => {
-                let columns = columns.clone()?;
-                Ok(Basis::ValuesIn(columns, *start, *end))
-            }
-            Basis::ValuesDuring(columns) => {
-                let columns = columns.clone()?;
-                Ok(Basis::ValuesDuring(columns))
-            }
-            Basis::Period(start, end) => Ok(Basis::Period(*start, *end)),
-        }
-    }
-
     /// Returns the span under which a row is indexed. It is `None` if a key value is NULL, or if the key is a period
     /// alone that does not start before it ends.
     pub(crate) fn span(&self, row: &[Value], during: Period) -> Option<Span>
@@ -150,6 +130,7 @@ impl Basis {
             }
             Basis::ValuesDuring(columns) => span_in(columns, row, Some(during)),
             Basis::Period(start, end) => span_alone(period_of_row(*start, *end, row)),
+            Basis::During => Some(placed_if(0, Some(during))),
         }
     }
 
@@ -185,6 +166,17 @@ impl Basis {
                 is_only(columns, column)
             }
             _ => false,
+        }
+    }
+
+    /// Whether an index with this definition can answer the lookup, if there is one. Otherwise, whether it finds rows
+    /// by the period kept with them.
+    pub(crate) fn serves_if(&self, sought: Option<Sought<'_>>) -> bool
+        ensures { IsTrue result ↔ ServesIf (option_map sought_of sought.entry) (basis_of self.now) }
+    {
+        match sought {
+            Some(sought) => self.serves(sought),
+            None => matches!(self, Basis::During),
         }
     }
 }

@@ -3,17 +3,18 @@ ghost use Rattle.std.specs.Prelude.{◌≡◌, ◌≢◌, ◌<◌, ◌≤◌, �
 ghost use Rattle.std.specs.Prelude.{None, length, map, option_map, slice_set};
 ghost use Rattle.tql_spec.specs.Bag.{SameBag};
 ghost use Rattle.tql_period.specs.Points.{points_of};
-ghost use Rattle.tql_store_index.specs.Basis.{Serves, With, WithIn, basis_of, filed, meets, sought_of, stands_by};
+ghost use Rattle.tql_store_index.specs.Basis.{ServesIf, With, WithIn, basis_of, filed, meets, meets_if, sought_of};
+ghost use Rattle.tql_store_index.specs.Basis.{stands_by};
 ghost use Rattle.tql_store_index.specs.Seating.{seat_at};
 ghost use Rattle.tql_store_index.specs.Standing.{passes, seats_if, stands};
-ghost use Rattle.tql_store_index.specs.ValueIndexes.{Each, IsGrown, IsTurned, IsLinked, DiffersIn, AreLoose, bare};
+ghost use Rattle.tql_store_index.specs.ValueIndexes.{Each, IsGrown, IsTurned, IsLinked, DiffersIn, AreLoose};
 ghost use Rattle.tql_store_index.specs.ValueIndexes.{IsFoundBy, index_at};
 ghost use Rattle.tql_value.specs.Views.{datum_of_value, datum_of_view};
 
 use crate::basis::{Basis, Sought};
 use crate::seat_index::SeatIndex;
 use crate::seats::Seats;
-use crate::tuple::span_of_tuple;
+use crate::tuple::{placed_if, span_of_tuple};
 use std::alloc::AllocError;
 use std::marker::Model;
 use tql_index::index::IntervalIndex;
@@ -149,19 +150,37 @@ impl<I: IntervalIndex> ValueIndex<I> {
         }
     }
 
-    /// Returns the positions of the candidate rows for a lookup: all rows that match within `during`, and possibly
-    /// others.
+    /// Returns the row slots of the candidate rows for a lookup. Without one, they are those of the rows whose kept
+    /// period shares a point with `during`.
+    fn candidates(
+        &self,
+        sought: Option<Sought<'_>>,
+        during: Option<Period>,
+    ) -> Result<Vec<usize, Memory>, AllocError>
+        ensures { IfOk result (λ seats. SameBag seats.items (seats_if
+            (passes (meets_if self.now.basis (option_map sought_of sought.entry) (option_map points_of during)))
+            0 self.now.standing)) }
+    {
+        match sought {
+            Some(sought) => self.seats_of(sought, during),
+            None => self.index.sharing(placed_if(0, during)),
+        }
+    }
+
+    /// Returns the positions of the candidate rows for a lookup, or for a period alone: all rows that match within
+    /// `during`, and possibly others.
     fn find(
         &self,
         seats: &Seats,
-        sought: Sought<'_>,
+        sought: Option<Sought<'_>>,
         during: Option<Period>,
     ) -> Result<Vec<usize, Memory>, AllocError>
         ensures { IfOk result (λ places. (what : _) → IsLinked what seats.now self.now.standing
             → SameBag places.items (seats_if
-            (passes (meets self.now.basis (sought_of sought.entry) (option_map points_of during))) 0 what)) }
+            (passes (meets_if self.now.basis (option_map sought_of sought.entry) (option_map points_of during)))
+            0 what)) }
     {
-        let mut found = self.seats_of(sought, during)?;
+        let mut found = self.candidates(sought, during)?;
         seats.place_each(&mut found);
         Ok(found)
     }
@@ -271,18 +290,6 @@ impl<I: IntervalIndex> ValueIndexes<I> {
         Ok(())
     }
 
-    /// Creates indexes with the same definitions and no rows, or returns an error if out of memory.
-    pub fn emptied(&self, memory: Memory) -> Result<ValueIndexes<I>, AllocError>
-        ensures { IfOk result (λ k. k ≡ map bare self.now) }
-    {
-        let mut indexes = ValueIndexes::new(memory);
-        for index in &self.indexes {
-            let basis = index.basis.copy()?;
-            indexes.add(memory, basis)?;
-        }
-        Ok(indexes)
-    }
-
     /// Makes room for at least `seats` row slots in each index.
     pub fn grow(&mut self, seats: usize) -> Result<(), AllocError>
         ensures each { Each IsGrown self.old self.new }
@@ -321,22 +328,22 @@ impl<I: IntervalIndex> ValueIndexes<I> {
         leave_each(&mut self.indexes, seats, from, to);
     }
 
-    /// Returns the positions of the candidate rows for a lookup: all rows that match, and possibly others. With
-    /// `during`, an index on the period kept with each row leaves out rows whose period shares no point with it.
-    /// Returns `None` only if no index serves the lookup, and an error if out of memory.
+    /// Returns the positions of the candidate rows for a lookup, or for a period alone: all rows that match, and
+    /// possibly others. With `during`, an index on the period kept with each row leaves out rows whose period shares no
+    /// point with it. Returns `None` only if no index serves the lookup, and an error if out of memory.
     pub fn find(
         &self,
         seats: &Seats,
-        sought: Sought<'_>,
+        sought: Option<Sought<'_>>,
         during: Option<Period>,
     ) -> Result<Option<Vec<usize, Memory>>, AllocError>
-        ensures places { IfOk result (λ r. IfSome r (λ places.
-            IsFoundBy seats.now self.now (sought_of sought.entry) (option_map points_of during) places.items)) }
+        ensures places { IfOk result (λ r. IfSome r (λ places. IsFoundBy seats.now self.now
+            (option_map sought_of sought.entry) (option_map points_of during) places.items)) }
         ensures none { IfOk result (λ r. r ≡ None → (i : _) → i < length self.now
-            → ¬ Serves (sought_of sought.entry) (index_at self.now i).basis) }
+            → ¬ ServesIf (option_map sought_of sought.entry) (index_at self.now i).basis) }
     {
         for index in &self.indexes {
-            if index.basis.serves(sought) {
+            if index.basis.serves_if(sought) {
                 let places = index.find(seats, sought, during)?;
                 return Ok(Some(places));
             }

@@ -103,7 +103,7 @@ past_refused s t old grown now new rows n to e more most each wide one two gone 
 -- ---- removing rows
 
 -- if there is an index, each row has a row slot
-seat_each : (s : Seating) (indexes : List ValueIndex) (rows : List Filed) → AreStanding s indexes rows
+pub seat_each : (s : Seating) (indexes : List ValueIndex) (rows : List Filed) → AreStanding s indexes rows
     → 0 < length indexes → length rows ≤ length s.seats
 seat_each s indexes rows h l =
     let r = (h.each 0 l).room in omega (arith, r, length-map rows (stands_by (index_at indexes 0).basis))

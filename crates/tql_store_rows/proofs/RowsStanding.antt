@@ -670,17 +670,27 @@ dropped old new p r l e =
           ∙ get_or-set_other old p k last d f;
     })
 
-pub linked_dropped : (test : Version → Bool) (basis : Basis) (standing : List (Option Period)) (s t : Seating)
+-- the spans of versions, by position
+pub record AreSpans (span : Version → Option Period) (ks : List Kept) (what : List (Option Period)) : Type 0 where
+  pub size : length what ≡ length ks
+  pub each : (k : ℕ) (d : Kept) → k < length ks → stands what k ≡ span (version_of (get_or ks k d))
+
+-- the row slot at a position has no span, and the others have those of their positions
+pub record IsFreed (p : ℕ) (what : List (Option Period)) (s : Seating) (standing : List (Option Period)) :
+    Type 0 where
+  pub room : length what ≤ length s.seats
+  pub wide : length s.seats ≤ length standing
+  pub gone : stands standing (seat_at s p) ≡ None
+  pub each : (k : ℕ) → k ≢ p → k < length s.seats → stands standing (seat_at s k) ≡ stands what k
+  pub beyond : (seat : ℕ) → length s.seats ≤ seat → stands standing seat ≡ None
+
+-- when the last version moves to the position with its row slot, each version has its span
+pub linked_freed : (span : Version → Option Period) (was now standing : List (Option Period)) (s t : Seating)
     (old new : List Kept) (p last : ℕ) (r : Kept) → p < length old → last + 1 ≡ length old
-    → (p < length s.seats → last < length s.seats → AreSwapped p last s t) → length new + 1 ≡ length old
-    → r ≡ get_or old p r
-    → ((d : Kept) → p + 1 < length old → get_or new p d ≡ get_or old (length old - 1) d)
-    → ((k : ℕ) (d : Kept) → k ≢ p → k + 1 < length old → get_or new k d ≡ get_or old k d)
-    → test (version_of r) ≡ false
-    → IsLinked (held_of test basis (versions_of old)) s standing
-    → IsLinked (held_of test basis (versions_of new)) t standing
-linked_dropped test basis standing s t old new p last r within is swaps size read there others shut h = record {
-  room = let e = swapped.even in omega (arith, e, room, size, kept-length test basis new);
+    → (p < length s.seats → last < length s.seats → AreSwapped p last s t) → IsDropped old new p
+    → AreSpans span old was → AreSpans span new now → IsFreed p was s standing → IsLinked now t standing
+linked_freed span was now standing s t old new p last r within is swaps d spans left h = record {
+  room = let e = swapped.even in omega (arith, e, room, size, count);
   wide = let e = swapped.even in let w = h.wide in omega (arith, e, w);
   each = λ k l.
       let m : k < length s.seats = let e = swapped.even in omega (arith, e, l) in
@@ -689,59 +699,76 @@ linked_dropped test basis standing s t old new p last r within is swaps size rea
           | inl a ↦
               let q : length old - 1 ≡ last = omega (arith, is) in
               ap (λ j. stands standing (seat_at t j)) e ∙ ap (λ j. stands standing j) swapped.first
-              ∙ h.each last (omega (arith, is, room))
-              ∙ held_here test basis old last r (omega (arith, is))
-              ∙ ap (λ j. held_in test basis (version_of (get_or old j r))) (sym q)
-              ∙ ap (λ x. held_in test basis (version_of x)) (sym (there r a))
-              ∙ sym (held_here test basis new p r (omega (arith, a, size)))
-              ∙ ap (λ j. stands (held_of test basis (versions_of new)) j) (sym e)
+              ∙ h.each last (λ z. omega (arith, z, a, is)) (omega (arith, is, room))
+              ∙ spans.each last r (omega (arith, is))
+              ∙ ap (λ j. span (version_of (get_or old j r))) (sym q)
+              ∙ ap (λ x. span (version_of x)) (sym (d.there r a))
+              ∙ sym (left.each p r (omega (arith, a, size)))
+              ∙ ap (λ j. stands now j) (sym e)
           | inr a ↦
               let q : last ≡ p = omega (arith, a, is, within) in
               ap (λ j. stands standing (seat_at t j)) e ∙ ap (λ j. stands standing j) swapped.first
-              ∙ ap (λ j. stands standing (seat_at s j)) q ∙ gone
-              ∙ sym (past_end (held_of test basis (versions_of new)) k
-              (omega (arith, a, e, size, kept-length test basis new)))
+              ∙ ap (λ j. stands standing (seat_at s j)) q ∙ h.gone
+              ∙ sym (past_end now k (omega (arith, a, e, size, count)))
         ]
         | inr f ↦ elim (apart k last) [
-          | inl e ↦ ap (λ j. stands standing (seat_at t j)) e ∙ ap (λ j. stands standing j) swapped.second ∙ gone
-              ∙ sym (past_end (held_of test basis (versions_of new)) k
-              (omega (arith, e, is, size, kept-length test basis new)))
-          | inr g ↦ ap (λ j. stands standing j) (swapped.others k f g) ∙ h.each k m ∙ elim (cases_lt k last) [
-            | inl a ↦ held_here test basis old k r (omega (arith, a, is))
-                ∙ ap (λ x. held_in test basis (version_of x)) (sym (others k r f (omega (arith, a, is))))
-                ∙ sym (held_here test basis new k r (omega (arith, a, is, size)))
-            | inr a ↦ past_end (held_of test basis (versions_of old)) k (beyond k g a)
-                ∙ sym (past_end (held_of test basis (versions_of new)) k (beyond_new k g a))
+          | inl e ↦ ap (λ j. stands standing (seat_at t j)) e ∙ ap (λ j. stands standing j) swapped.second ∙ h.gone
+              ∙ sym (past_end now k (omega (arith, e, is, size, count)))
+          | inr g ↦ ap (λ j. stands standing j) (swapped.others k f g) ∙ h.each k f m ∙ elim (cases_lt k last) [
+            | inl a ↦ spans.each k r (omega (arith, a, is))
+                ∙ ap (λ x. span (version_of x)) (sym (d.others k r f (omega (arith, a, is))))
+                ∙ sym (left.each k r (omega (arith, a, is, size)))
+            | inr a ↦ past_end was k (beyond k g a) ∙ sym (past_end now k (beyond_new k g a))
           ]
         ]
       ];
   beyond = λ seat l. h.beyond seat (let e = swapped.even in omega (arith, e, l));
 }
   where
+    size : length new + 1 ≡ length old
+    size = d.size
+
+    count : length now ≡ length new
+    count = left.size
+
     room : length old ≤ length s.seats
-    room = let r = h.room in omega (arith, r, kept-length test basis old)
+    room = let a = h.room in let b = spans.size in omega (arith, a, b)
 
     swapped : AreSwapped p last s t
     swapped = swaps (omega (arith, within, room)) (omega (arith, is, room))
 
-    gone : stands standing (seat_at s p) ≡ None
-    gone = h.each p (omega (arith, within, room)) ∙ held_here test basis old p r within
-        ∙ ap (λ x. held_in test basis (version_of x)) (sym read) ∙ none_held test basis (version_of r) shut
-
-    beyond : (k : ℕ) → k ≢ last → last ≤ k → length (held_of test basis (versions_of old)) ≤ k
+    beyond : (k : ℕ) → k ≢ last → last ≤ k → length was ≤ k
     beyond k g a = elim (cases_lt last k) [
-      | inl b ↦ omega (arith, b, is, kept-length test basis old)
+      | inl b ↦ let n = spans.size in omega (arith, b, is, n)
       | inr b ↦ absurd (g (omega (arith, a, b)))
     ]
 
-    beyond_new : (k : ℕ) → k ≢ last → last ≤ k → length (held_of test basis (versions_of new)) ≤ k
-    beyond_new k g a = omega (arith, a, is, size, kept-length test basis new)
+    beyond_new : (k : ℕ) → k ≢ last → last ≤ k → length now ≤ k
+    beyond_new k g a = omega (arith, a, is, size, count)
 
--- a closed version that the code reads twice
-pub shut_read : (ks : List Kept) (p : ℕ) (r v : Kept) → p < length ks → v ≡ get_or ks p v
-    → is_current (version_of v) ≡ false → r ≡ get_or ks p r → is_current (version_of r) ≡ false
-shut_read ks p r v l read shut again =
-    ap (λ x. is_current (version_of x)) (again ∙ get_or_default ks p r v l ∙ sym read) ∙ shut
+held_spans : (test : Version → Bool) (basis : Basis) (ks : List Kept)
+    → AreSpans (held_in test basis) ks (held_of test basis (versions_of ks))
+held_spans test basis ks = record { size = kept-length test basis ks; each = held_here test basis ks }
+
+-- a version that fails the test has no span
+pub linked_dropped : (test : Version → Bool) (basis : Basis) (standing : List (Option Period)) (s t : Seating)
+    (old new : List Kept) (p last : ℕ) (r : Kept) → p < length old → last + 1 ≡ length old
+    → (p < length s.seats → last < length s.seats → AreSwapped p last s t) → r ≡ get_or old p r
+    → IsDropped old new p → test (version_of r) ≡ false
+    → IsLinked (held_of test basis (versions_of old)) s standing
+    → IsLinked (held_of test basis (versions_of new)) t standing
+linked_dropped test basis standing s t old new p last r within is swaps read d shut h =
+    linked_freed (held_in test basis) (held_of test basis (versions_of old)) (held_of test basis (versions_of new))
+    standing s t old new p last r within is swaps d (held_spans test basis old) (held_spans test basis new)
+    (record {
+      room = h.room;
+      wide = h.wide;
+      gone = h.each p (let a = h.room in omega (arith, within, a, kept-length test basis old))
+          ∙ held_here test basis old p r within
+          ∙ ap (λ x. held_in test basis (version_of x)) (sym read) ∙ none_held test basis (version_of r) shut;
+      each = λ k f l. h.each k l;
+      beyond = h.beyond;
+    })
 
 -- the closed version that the code reads at a position
 pub read_at : (ks : List Kept) (p : ℕ) (v : Kept) → p < length ks → v ≡ get_or ks p v

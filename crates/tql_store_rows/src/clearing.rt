@@ -1,6 +1,7 @@
 //! Removal of closed versions from the current ones.
 ghost use Rattle.std.specs.Prelude.{◌≡◌, ◌≢◌, ◌≤◌, ◌<◌, ◌+◌, All, false, length, slice_index_or, Contains};
 ghost use Rattle.std.specs.List.{swap_remove};
+ghost use Rattle.tql_store_index.specs.Seating.{AreSwapped};
 ghost use Rattle.tql_store_rows.specs.RowsStanding.{IsLess};
 ghost use Rattle.tql_versions.specs.Changes.{is_current};
 ghost use Rattle.tql_versions.specs.Views.{version_of, versions_of, open_at};
@@ -10,13 +11,15 @@ use tql_store_index::seats::Seats;
 use tql_versions::kept::{Kept, is_open};
 
 /// Removes and returns the version at a position; the last version moves there with its row slot.
-fn drop_version(versions: &mut Vec<Kept, Memory>, seats: &mut Seats, place: usize) -> Kept
+pub fn drop_version(versions: &mut Vec<Kept, Memory>, seats: &mut Seats, place: usize) -> Kept
     requires { place < length versions.old.items }
     ensures value { result ≡ slice_index_or versions.old.items place result }
     ensures items { versions.new.items ≡ swap_remove versions.old.items place result }
     ensures shorter { length versions.new.items + 1 ≡ length versions.old.items }
     ensures others { (k : _) → k ≢ place → k + 1 < length versions.old.items → (d : Kept)
         → slice_index_or versions.new.items k d ≡ slice_index_or versions.old.items k d }
+    ensures swapped { place < length seats.old.seats → length versions.new.items < length seats.old.seats
+        → AreSwapped place (length versions.new.items) seats.old seats.new }
     ensures less { (n : _) → n ≤ place → is_current (version_of result) ≡ false
         → IsLess n (versions_of versions.old.items) (versions_of versions.new.items) seats.old seats.new }
 {

@@ -1,5 +1,4 @@
 use Rattle.std.proofs.Common.{sym, ap, subst, ◌∙◌}
-use Rattle.std.specs.Prelude.{ℕ}
 use Rattle.std.proofs.lemmas.Option.{IfSome_then}
 use Rattle.tql_store.specs.Pinned.{store_at}
 use Rattle.tql_store.specs.StoreModel.{StoreModel}

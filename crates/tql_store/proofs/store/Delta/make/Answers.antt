@@ -37,8 +37,7 @@ returns-in_err-apply-clause-err_rest g c =
     c.requires.within
     (sym c.index-rows-number.is
     ∙ element-at c.args.rows.now c.from-number.result c.args.self.table c.index-rows-number.result
-    c.index-rows-number.is at c.requires.within) c.apply.ensures.turn c.in_err-apply.ensures.err
-    c.in_err-apply.ensures.err_entries)
+    c.index-rows-number.is at c.requires.within) c.apply.ensures.turn c.in_err-apply.ensures.err)
 
 pub returns-clause-turned : goal.returns-clause-turned
 returns-clause-turned g c =

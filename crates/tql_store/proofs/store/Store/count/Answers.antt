@@ -1,9 +1,8 @@
 use Rattle.std.proofs.Common.{◌≡◌, true, rules, refl, arith, ap, subst, sym, ◌∙◌, length, filter}
-use Rattle.std.specs.Prelude.{ℕ, List, slice_index_or}
+use Rattle.std.specs.Prelude.{List, slice_index_or}
 use Rattle.std.proofs.lemmas.Grind.{common_steps}
 use Rattle.std.proofs.lemmas.Option.{IfSome_then}
 use Rattle.tql_spec.specs.Definition.{Version}
-use Rattle.tql_versions.specs.Changes.{alive}
 use Rattle.tql_versions.specs.Readings.{asked}
 use Rattle.tql_value.specs.declared.when.When.TheVariants.{Now}
 use Rattle.tql_store_rows.specs.Readings.{IsCount}

@@ -38,7 +38,7 @@ returns-clause-versions g c =
     let r = read g c in
     subst (λ (vs : List Version). SameBag (map version_shown c.in_ok-found.found.items)
     (filter (asked c.args.when) (filter alive vs))) (sym r.shown)
-    (c.in_ok-found.ensures.bag r.readable.rest r.readable.indexed r.readable.ended)
+    (c.in_ok-found.ensures.bag r.readable.ended)
 
 pub returns-clause-ids : goal.returns-clause-ids
 returns-clause-ids g c =
@@ -49,7 +49,7 @@ pub returns-clause-once : goal.returns-clause-once
 returns-clause-once g c =
     let r = read g c in
     subst (λ (vs : List Version). NamesOnce (asked c.args.when) vs c.in_ok-found.found.items) (sym r.shown)
-    (c.in_ok-found.ensures.once r.readable.rest r.readable.indexed r.readable.ended)
+    (c.in_ok-found.ensures.once r.readable.ended)
 
 pub returns-clause-copies : goal.returns-clause-copies
 returns-clause-copies g c =

@@ -1,36 +1,20 @@
-use Rattle.std.proofs.Common.{◌≡◌, [], List, Option, map, w64, rules, sym, ap, subst, ◌∙◌}
-use Rattle.std.specs.Prelude.{ℤ, All, IsTrue}
+use Rattle.std.proofs.Common.{◌≡◌, [], List, map, w64, rules, sym, ap, subst, ◌∙◌}
+use Rattle.std.specs.Prelude.{ℤ}
 use Rattle.std.specs.Vec.{with_items}
 use Rattle.std.proofs.Math.Facts.{to_z-of_z}
 use Rattle.std.proofs.lemmas.List.{with_items_is}
 use mir.Val.{to_z, of_z}
-use Rattle.tql_versions.specs.Changes.{alive}
-use Rattle.tql_store_rows.specs.Pruned.{Pruning}
 use Rattle.tql_store_rows.specs.TableModel as rows
 use Rattle.tql_store_rows.specs.TableModel.{versions}
-use Rattle.tql_store.specs.Orderly.{table_at, AreMade, ArePruned, IsOrderly}
+use Rattle.tql_store.specs.Orderly.{table_at, ArePruned, IsOrderly}
 use Rattle.tql_store.specs.StoreModel.{StoreModel}
 use Rattle.tql_store.proofs.Pruned.{none_open, prune-orderly, pruned-versions, resting}
 use Rattle.tql_store.proofs.Storing.{shown}
 use Rattle.tql_store.proofs.StoreLaws.{prunes-copies}
 use Rattle.tql_store.proofs.store.Store.prune.Goals as goal
 
-pub prunings_of-requires : goal.prunings_of-requires
-prunings_of-requires g c =
-    let none = none_open c.args.self.now.working c.requires.closed in
-    let o = resting c.self.inside.working (ap (λ (h : StoreModel). h.working) c.self.view_is ∙ none) c.self.invariant in
-    λ t. subst (λ (ts : List rows.TableModel). All (λ v. IsTrue (alive v)) (table_at ts t).closed)
-    (sym c.deref.ensures.value) (o.ready.rest t).indexed.proper
-
-pub prune_each-requires-clause-made : goal.prune_each-requires-clause-made
-prune_each-requires-clause-made g c =
-    subst (λ (ps : List (Option Pruning)). AreMade (to_z w64 (of_z w64 c.args.horizon)) c.deref_mut.result.now ps)
-    (sym c.deref_mut-2.ensures.value)
-    (subst (λ (ts : List rows.TableModel). AreMade (to_z w64 (of_z w64 c.args.horizon)) ts
-    c.in_ok-prunings.prunings.items) (c.deref.ensures.value ∙ sym c.deref_mut.ensures.value) c.in_ok-prunings.ensures)
-
-pub prune_each-requires-clause-ended : goal.prune_each-requires-clause-ended
-prune_each-requires-clause-ended g c =
+pub prune_each-requires : goal.prune_each-requires
+prune_each-requires g c =
     let none = none_open c.args.self.now.working c.requires.closed in
     let o = resting c.self.inside.working (ap (λ (h : StoreModel). h.working) c.self.view_is ∙ none) c.self.invariant in
     λ t. subst (λ (ts : List rows.TableModel). (table_at ts t).ended ≡ []) (sym c.deref_mut.ensures.value)

@@ -1,5 +1,5 @@
 use Rattle.std.proofs.Common.{◌≡◌, true, [], List, All, map, filter, rules, refl, arith, sym, ap, subst, ◌∙◌}
-use Rattle.std.specs.Prelude.{slice_index_or}
+use Rattle.std.specs.Prelude.{Some, slice_index_or}
 use Rattle.std.proofs.lemmas.Grind.{common_steps}
 use Rattle.tql_spec.specs.Bag.{SameBag}
 use Rattle.tql_spec.specs.Definition.{Version}
@@ -36,12 +36,12 @@ read g c =
     }
 
 bag : (g : given.Over) (c : goal.In_ok-found g) → SameBag (map version_shown c.in_ok-found.found.items)
-    (filter (chosen c.args.when (sought_of c.args.sought))
+    (filter (chosen c.args.when (Some (sought_of c.args.sought)))
     (filter alive (slice_index_or c.args.self.now.versions c.args.table [])))
 bag g c =
     let r = read g c in
     subst (λ (vs : List Version). SameBag (map version_shown c.in_ok-found.found.items)
-    (filter (chosen c.args.when (sought_of c.args.sought)) (filter alive vs))) (sym r.shown)
+    (filter (chosen c.args.when (Some (sought_of c.args.sought))) (filter alive vs))) (sym r.shown)
     (c.in_ok-found.ensures.bag r.readable.ended)
 
 pub returns : goal.returns
@@ -51,7 +51,7 @@ returns g c =
       versions = bag g c;
       ids = subst (λ (vs : List Version). All (Names vs) c.in_ok-found.found.items) (sym r.shown)
           c.in_ok-found.ensures.ids;
-      once = subst (λ (vs : List Version). NamesOnce (chosen c.args.when (sought_of c.args.sought)) vs
+      once = subst (λ (vs : List Version). NamesOnce (chosen c.args.when (Some (sought_of c.args.sought))) vs
           c.in_ok-found.found.items) (sym r.shown) (c.in_ok-found.ensures.once r.readable.ended);
       copies = answers-by c.args.self.now c.args.table c.args.when (is_sought (sought_of c.args.sought)) _
           c.requires.versioned (bag g c);
