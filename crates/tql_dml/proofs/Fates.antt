@@ -17,7 +17,7 @@ use Rattle.tql_dml.specs.Parts.{Parts, before, part_where, part_of, parts}
 
 -- ---- version by version
 
-joined : (p : Parts) (d r : Option Parts) → before p (d >>= λ q. before q r) ≡ before p d >>= λ n. before n r
+pub joined : (p : Parts) (d r : Option Parts) → before p (d >>= λ q. before q r) ≡ before p d >>= λ n. before n r
 joined p None r = refl
 joined p (Some q) None = refl
 joined p (Some q) (Some r) =

@@ -8,6 +8,7 @@ pub mod Altering
 pub mod Rows
 pub mod Rising
 pub mod Fates
+pub mod Current
 pub mod Cuts
 pub mod Touching
 pub mod PieceTexts

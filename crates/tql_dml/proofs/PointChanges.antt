@@ -123,6 +123,14 @@ modify_at_points d id found x delta g scope apart defs p m others h =
       };
     }
 
+-- by its result
+pub modifies_where_ok : (d : TableDef) (id : ℕ) (found : List Version) (x : Modification)
+    (result : Result Delta Refusal)
+    → Alters id (gone d x found) (λ m. coming (fates d found x m)) (modified d found x) result
+    → IfOk result (ModifiesAtPoints d found x)
+modifies_where_ok d id found x (Ok delta) g = modify_at_points d id found x delta g
+modifies_where_ok d id found x (Err e) g = tt
+
 -- ---- INSERT
 
 starts_so : (d : TableDef) (m : ℤ) (columns : List ℕ) (tuples : List Row)

@@ -1,4 +1,5 @@
 pub mod Cells
+pub mod Current
 pub mod Cutting
 pub mod Failing
 pub mod Alters

@@ -3,20 +3,25 @@
 //! Each current version that the change touches is removed. An UPDATE adds its new row. With a portion, the row is cut
 //! into the parts of its period before, within and after the portion. The new row gets the part within, and the old
 //! values are added again for the parts before and after.
-ghost use Rattle.std.specs.Prelude.{◌≡◌, All, length, option_map, IfOk, Some};
+ghost use Rattle.std.specs.Prelude.{◌≡◌, All, List, length, option_map, IfOk, Some};
 ghost use Rattle.tql_spec.specs.Definition.{shown};
 ghost use Rattle.tql_catalog.specs.Rows.{IsRowOf, stored_width};
-ghost use Rattle.tql_versions.specs.Readings.{version_shown as version_of};
+ghost use Rattle.tql_versions.specs.Readings.{is_answer, version_shown as version_of};
+ghost use Rattle.tql_versions.specs.Views.{version_of as kept_version};
+ghost use Rattle.tql_versions.specs.declared.version.Version as answer;
 ghost use Rattle.tql_dml.specs.Alters.{Alters, modified, fates, coming, gone, portion_in, work_in, conds_in};
 ghost use Rattle.tql_dml.specs.Alters.{IsVersionOf, AreTyped};
+ghost use Rattle.tql_dml.specs.Current.{open_versions};
 ghost use Rattle.tql_dml.specs.Cutting.{IsCut, left_cells, made_cells};
 ghost use Rattle.tql_dml.specs.PointChanges.{ModifiesAtPoints};
 ghost use Rattle.tql_dml.specs.PointRefusals.{RefusesModificationAsPoints};
 ghost use Rattle.tql_period.specs.Points.{points_of};
 ghost use Rattle.tql_expr.specs.Evaluated.{Evaluated};
 ghost use Rattle.tql_expr.specs.Shown.{shown_by};
+ghost use Rattle.tql_bound.specs.declared.change.Modification as bound;
 ghost use Rattle.tql_value.specs.Views.{rows_of};
-ghost use Rattle.tql_dml.specs.Parts.{before, with_rows, touched_part, part_of, parts, parts_in};
+ghost use Rattle.tql_value.specs.declared.when.When.TheVariants.{Now};
+ghost use Rattle.tql_dml.specs.Parts.{before, with_rows, touched_part, part_of, part_where, parts, parts_in};
 
 use crate::assignment::{changed_row, left_row};
 use crate::faults::first_fault;
@@ -32,6 +37,8 @@ use tql_store::store::Delta;
 use tql_value::refusal::Refusal;
 use tql_value::table::TableId;
 use tql_value::value::Value;
+use tql_versions::kept::Kept;
+use tql_versions::readings::if_open;
 use tql_versions::version::{HIGH, Version};
 
 /// The effect of a change so far: the ids of the removed versions, and the added rows as stored cells.
@@ -200,6 +207,69 @@ pub(crate) fn changes(
     Ok(changed)
 }
 
+/// Adds the effect on a stored version. It is untouched if it is not open, or as `add_version` says.
+fn add_if_open(
+    memory: Memory,
+    definition: &TableDef,
+    modification: &Modification,
+    id: usize,
+    version: &Kept,
+    changed: &mut Changed,
+) -> Result<(), Refusal>
+    ensures { Evaluated (λ _. parts_in changed.new) (before (parts_in changed.old)
+        (part_where (is_answer Now (kept_version version.now))
+        (part_of definition.now (portion_in modification.now) (work_in modification.now) (conds_in modification.now)
+        id (shown definition.now (kept_version version.now).row)))) result }
+{
+    match if_open(id, version) {
+        Some(live) => add_version(memory, definition, modification, live, changed),
+        None => Ok(()),
+    }
+}
+
+/// Returns the effect on the current rows of a table, given its versions stored as current. Only what is touched is
+/// kept in memory.
+fn changes_now(
+    memory: Memory,
+    definition: &TableDef,
+    modification: &Modification,
+    current: &[Kept],
+) -> Result<Changed, Refusal>
+    ensures { Evaluated parts_in
+        (parts definition.now (portion_in modification.now) (work_in modification.now) (conds_in modification.now)
+        (open_versions current.now)) result }
+{
+    let mut changed = Changed {
+        removed: Vec::new(memory),
+        added: Vec::new(memory),
+    };
+    for (id, version) in current.iter().enumerate() {
+        add_if_open(memory, definition, modification, id, version, &mut changed)?;
+    }
+    Ok(changed)
+}
+
+/// Returns the change of a table from its effect on versions, if the added rows have no fault.
+fn tested(table: &Table, changed: Result<Changed, Refusal>) -> Result<Delta, Refusal>
+    ensures alters { (x : bound.Modification) (found : List answer.Version)
+        → All (λ (v : answer.Version). length v.row.now ≡ stored_width table.now.definition) found
+        → Evaluated parts_in (parts table.now.definition (portion_in x) (work_in x) (conds_in x) found) changed
+        → Alters table.now.id (gone table.now.definition x found) (λ m. coming (fates table.now.definition found x m))
+        (modified table.now.definition found x) result }
+    ensures fits { (x : bound.Modification) (found : List answer.Version)
+        → All (λ (v : answer.Version). length v.row.now ≡ stored_width table.now.definition) found
+        → Evaluated parts_in (parts table.now.definition (portion_in x) (work_in x) (conds_in x) found) changed
+        → All (IsVersionOf table.now.definition) found → AreTyped table.now.definition found x
+        → IfOk result (λ delta. All (IsRowOf table.now.definition) (rows_of delta.added.items)) }
+{
+    let definition = &table.definition;
+    let changed = changed?;
+    match first_fault(definition, &changed.added) {
+        Some(refusal) => Err(refusal),
+        None => Ok(changed.of_table(table.id)),
+    }
+}
+
 /// Returns the change that an UPDATE or DELETE makes of these versions, the current ones of the table. Versions whose
 /// row is touched are removed, and an UPDATE adds the new row of each. With a portion, a row is touched if its
 /// application period shares a point with the portion. Its change is confined to the portion, and its old values are
@@ -235,10 +305,34 @@ pub fn modify(
     ensures points { IfOk result (ModifiesAtPoints table.now.definition found.now modification.now) }
     ensures refusals { RefusesModificationAsPoints table.now.definition found.now modification.now result }
 {
-    let definition = &table.definition;
-    let changed = changes(memory, definition, modification, found)?;
-    match first_fault(definition, &changed.added) {
-        Some(refusal) => Err(refusal),
-        None => Ok(changed.of_table(table.id)),
-    }
+    tested(
+        table,
+        changes(memory, &table.definition, modification, found),
+    )
+}
+
+/// Returns what `modify` returns for the current rows of a table, given its versions stored as current; the id of each
+/// is its position. Rows that are not touched take no memory.
+pub fn modify_current(
+    memory: Memory,
+    table: &Table,
+    current: &[Kept],
+    modification: &Modification,
+) -> Result<Delta, Refusal>
+    requires { All (λ v. length v.row.now ≡ stored_width table.now.definition) (open_versions current.now) }
+    ensures alters { Alters table.now.id (gone table.now.definition modification.now (open_versions current.now))
+        (λ m. coming (fates table.now.definition (open_versions current.now) modification.now m))
+        (modified table.now.definition (open_versions current.now) modification.now) result }
+    ensures fits { All (IsVersionOf table.now.definition) (open_versions current.now)
+        → AreTyped table.now.definition (open_versions current.now) modification.now
+        → IfOk result (λ delta. All (IsRowOf table.now.definition) (rows_of delta.added.items)) }
+    ensures points { IfOk result
+        (ModifiesAtPoints table.now.definition (open_versions current.now) modification.now) }
+    ensures refusals { RefusesModificationAsPoints table.now.definition (open_versions current.now) modification.now
+        result }
+{
+    tested(
+        table,
+        changes_now(memory, &table.definition, modification, current),
+    )
 }
