@@ -7,3 +7,4 @@ pub mod OnGroup
 pub mod Collected
 pub mod Accumulators
 pub mod Turns
+pub mod Indexes

@@ -39,8 +39,9 @@ use Rattle.tql_expr.specs.declared.terms.ExprId.{ExprId}
 use Rattle.tql_expr.specs.declared.terms.Terms.{Terms}
 use Rattle.tql_exec_group.specs.Folded.{HasFolded, HaveFolded}
 use Rattle.tql_exec_group.specs.Grouped.{keys_of, with_key}
+use Rattle.tql_exec_group.specs.Places.{cell_in, key_at, place_from}
 use Rattle.tql_exec_group.specs.Results.{AreResults, IsKeyOf, IsResult}
-use Rattle.tql_exec_group.specs.Steps.{aggregate_of, aggregates_in, compared_by, contained_by, key_at, key_from}
+use Rattle.tql_exec_group.specs.Steps.{aggregate_of, aggregates_in, compared_by, contained_by}
 use Rattle.tql_exec_group.specs.Steps.{node_truth, node_value, passes_by, reads_from, related_by, shown_if, truth_in}
 use Rattle.tql_exec_group.specs.Steps.{value_in, AreSteps, IsStep, LiesIn}
 use Rattle.tql_exec_group.specs.declared.fold.Accumulator.{Accumulator}
@@ -71,13 +72,13 @@ shifted p q = omega arith
 module _ (row : Row) (i : ℕ) where
   found_in : (p : ℕ) (cs : List ℕ) (key : Row)
       → ((q : ℕ) → q < length cs → slice_index_or key (p + q) Null ≡ cell row (slice_index_or cs q 0))
-      → has_number i cs ≡ true → key_from p cs key i ≡ cell row i
+      → has_number i cs ≡ true → cell_in key (place_from p cs i) ≡ cell row i
   found_in p [] key at h = absurd (cc)
   found_in p (c ∷ cs) key at h = by_bool (nat_eq i c)
-      (λ is. ap (λ b. if b then slice_index_or key p Null else key_from (p + 1) cs key i) is
+      (λ is. ap (λ (b : Bool). cell_in key (if b then Some p else place_from (p + 1) cs i)) is
       ∙ ap (λ m. slice_index_or key m Null) (sym (add-zero p)) ∙ at 0 (omega arith) ∙ ap (cell row) (sym (eqb-true i
       c is)))
-      (λ far. ap (λ b. if b then slice_index_or key p Null else key_from (p + 1) cs key i) far
+      (λ far. ap (λ (b : Bool). cell_in key (if b then Some p else place_from (p + 1) cs i)) far
       ∙ found_in (p + 1) cs key
       (λ q l. ap (λ m. slice_index_or key m Null) (sym (shifted p q)) ∙ at (suc q) (omega arith))
       (sym (ap (λ b. b || has_number i cs) far) ∙ h))

@@ -3,5 +3,6 @@ pub mod Folded
 pub mod Folds
 pub mod Grouped
 pub mod Operands
+pub mod Places
 pub mod Results
 pub mod Steps

@@ -8,7 +8,8 @@ use Rattle.tql_spec.specs.Truth.{Truth}
 use Rattle.tql_expr.specs.Meaning.{trees}
 use Rattle.tql_expr.specs.Trees.{cond_of, expr_of, term_in}
 use Rattle.tql_expr.specs.declared.terms.Terms.{Terms}
-use Rattle.tql_exec_group.specs.Steps.{key_at, truth_in, value_in}
+use Rattle.tql_exec_group.specs.Places.{key_at}
+use Rattle.tql_exec_group.specs.Steps.{truth_in, value_in}
 use Rattle.tql_exec_group.specs.declared.on_group.Found.{Found}
 
 -- the cells of the grouping columns are those of the row

@@ -1,7 +1,7 @@
 -- The nodes of HAVING and of the select list, which are evaluated one after another for a group.
-use Rattle.std.specs.Prelude.{◌≡◌, ℕ, ◌+◌, ◌-◌, ◌<◌, ◌≤◌, Bool, true, false, ◌&&◌, IsTrue, nat_le, nat_eq, List, []}
+use Rattle.std.specs.Prelude.{◌≡◌, ℕ, ◌+◌, ◌-◌, ◌<◌, ◌≤◌, Bool, true, false, ◌&&◌, IsTrue, nat_le, List, []}
 use Rattle.std.specs.Prelude.{◌∷◌}
-use Rattle.std.specs.Prelude.{if◌then◌else◌, length, map, slice_index_or, Option, Some, None, pos}
+use Rattle.std.specs.Prelude.{length, map, slice_index_or, Option, Some, None, pos}
 use Rattle.std.specs.List.{filter_map}
 use Rattle.tql_spec.specs.Words.{◌>>=◌, with_front}
 use Rattle.tql_spec.specs.Truth.{Truth, True, and, or, negated, truth_of}
@@ -81,15 +81,6 @@ value_in from found at = slice_index_or (map (λ (f : Found). outcome f.value) f
 -- the truth likewise
 abbrev pub truth_in : ℕ → List Found → ℕ → Option Truth
 truth_in from found at = slice_index_or (map (λ (f : Found). judged f.truth) found) (at - from) None
-
--- the cell of a column, of a key whose first cell is that of the column at this index among the grouping columns
-abbrev pub key_from : ℕ → List ℕ → Row → ℕ → Datum
-key_from place [] key column = Null
-key_from place (c ∷ cs) key column =
-    if nat_eq column c then slice_index_or key place Null else key_from (place + 1) cs key column
-
-abbrev pub key_at : List ℕ → Row → ℕ → Datum
-key_at columns key column = key_from 0 columns key column
 
 -- the value of a node from the values of its operands; of a condition or an aggregate it says nothing
 abbrev pub node_value : (ℕ → Datum) → (ℕ → Datum) → (ℕ → Option Datum) → Node → Option Datum

@@ -10,11 +10,13 @@ ghost use Rattle.tql_expr.specs.declared.terms.Terms.{Terms as CodeTerms};
 ghost use Rattle.tql_exec_join.specs.Tuples.{tuple_row};
 ghost use Rattle.tql_exec_group.specs.Folded.{HaveFolded};
 ghost use Rattle.tql_exec_group.specs.Begun.{BeginsGroup, TakesAt};
+ghost use Rattle.tql_exec_group.specs.Places.{ArePlaces};
 ghost use Rattle.tql_exec_numbered.specs.Numbered.{with_row};
 ghost use Rattle.tql_exec_group.specs.Operands.{operands_prop as is_prop};
 
 use crate::fold::Accumulator;
 use crate::on_group::{Group, Results, add_shown, results_on};
+use crate::places::places_of;
 use crate::steps::{Steps, steps_of};
 use std::alloc::AllocError;
 use tql_exec_join::sink::Sink;
@@ -34,7 +36,10 @@ pub struct Grouping<'q> {
     columns: &'q [usize],
     having: &'q [CondId],
     items: &'q [ExprId],
+    /// The index of each column among the grouping columns.
+    places: Vec<Option<usize>, Memory>,
     steps: Steps,
+    ghost placed: { ArePlaces columns.now places.items },
     ghost there: { All (HasOperand terms.now) steps.aggregates.items } by { is_prop terms.now steps.aggregates.items },
 }
 
@@ -46,8 +51,10 @@ impl Drop for Grouping<'_> {
             columns: _,
             having: _,
             items: _,
+            places,
             steps,
         } = self;
+        drop(places);
         drop(steps);
     }
 }
@@ -242,7 +249,8 @@ impl<'q> Grouping<'q> {
     ghost use Rattle.tql_exec_group.specs.Grouped.{scope_at, HasGrouped, IsGroupingOf, IsReady};
     ghost use Rattle.tql_exec_group.specs.Results.{IsKeyOf};
 
-    /// Returns the sink of a grouped query. Its nodes are collected once. The only error is a refused allocation.
+    /// Returns the sink of a grouped query. Its nodes and the indexes of its columns are collected once. The only error
+    /// is a refused allocation.
     pub fn new(
         memory: Memory,
         terms: &'q Terms,
@@ -255,6 +263,7 @@ impl<'q> Grouping<'q> {
         ensures is { IfOk result (IsGroupingOf terms.now columns.now having.now items.now) }
         ensures ready { IfOk result IsReady }
     {
+        let places = places_of(memory, columns)?;
         let steps = steps_of(memory, terms, having, items)?;
         Ok(Grouping {
             memory,
@@ -262,6 +271,7 @@ impl<'q> Grouping<'q> {
             columns,
             having,
             items,
+            places,
             steps,
         })
     }
@@ -303,6 +313,7 @@ impl<'q> Grouping<'q> {
     {
         let group = Group {
             columns: self.columns,
+            places: self.places.as_slice(),
             key,
             folds,
         };

@@ -7,5 +7,6 @@ pub mod fold;
 pub mod grouping;
 pub mod listing;
 mod on_group;
+mod places;
 mod showing;
 pub mod steps;

@@ -14,8 +14,9 @@ ghost use Rattle.tql_expr.specs.Trees.{plain_operation};
 ghost use Rattle.tql_expr.specs.declared.terms.Aggregate.{Aggregate as CodeAggregate};
 ghost use Rattle.tql_expr.specs.declared.terms.Terms.{Terms as CodeTerms};
 ghost use Rattle.tql_exec_group.specs.Folded.{HasFolded, HaveFolded};
+ghost use Rattle.tql_exec_group.specs.Places.{key_at, ArePlaces};
 ghost use Rattle.tql_exec_group.specs.Results.{AreResults, IsKeyOf};
-ghost use Rattle.tql_exec_group.specs.Steps.{aggregate_of, aggregates_in, key_at, node_truth};
+ghost use Rattle.tql_exec_group.specs.Steps.{aggregate_of, aggregates_in, node_truth};
 ghost use Rattle.tql_exec_group.specs.Steps.{node_value, passes_by};
 ghost use Rattle.tql_exec_group.specs.Steps.{reads_from, shown_if, truth_in, value_in, AreSteps, LiesIn};
 ghost use Rattle.tql_exec_group.specs.declared.fold.Accumulator.{Accumulator as CodeAccumulator};
@@ -38,8 +39,11 @@ use tql_value::value::{Value, View};
 #[derive(Clone, Copy)]
 pub(crate) struct Group<'a> {
     pub(crate) columns: &'a [usize],
+    /// The index of each column among the grouping columns.
+    pub(crate) places: &'a [Option<usize>],
     pub(crate) key: &'a [Value],
     pub(crate) folds: &'a [Accumulator],
+    ghost placed: { ArePlaces columns.now places.now },
 }
 
 /// The results of a node: the value of an expression, or the truth of a condition.
@@ -99,34 +103,32 @@ fn applied<'a>(
 }
 
 /// Returns the cell of a column, or NULL if it is no grouping column.
-fn key_cell<'a>(columns: &[usize], key: &'a [Value], column: usize) -> View<'a>
-    ensures { datum_of_view result ≡ key_at columns.now (row_of key.now) column }
+fn key_cell<'a>(group: Group<'a>, column: usize) -> View<'a>
+    ensures { datum_of_view result ≡ key_at group.entry.columns.now (row_of group.entry.key.now) column }
 {
-    for (place, one) in columns.iter().enumerate() {
-        if *one == column {
-            return cell_at(key, place);
-        }
+    match group.places.get(column) {
+        Some(Some(place)) => cell_at(group.key, *place),
+        _ => View::Null,
     }
-    View::Null
 }
 
 /// Returns the value of an expression other than an aggregate. A condition has none, and counts as NULL.
 fn value_of<'a>(
     terms: &'a Terms,
+    group: Group<'a>,
     node: Node,
-    columns: &[usize],
-    key: &'a [Value],
     results: Results<'_, 'a>,
 ) -> Result<View<'a>, Range>
     requires before { IsTrue
         (reads_before (length terms.now.literals.items) (results.from + length results.found.now) node) }
     requires within { IsTrue (reads_from results.from node) }
     ensures { outcome result ≡ node_value (datum_at terms.now.literals.items)
-        (key_at columns.now (row_of key.now)) (value_in results.entry.from results.entry.found.now) node }
+        (key_at group.entry.columns.now (row_of group.entry.key.now))
+        (value_in results.entry.from results.entry.found.now) node }
 {
     match node {
         Node::Literal(place) => Ok(terms.literal(place)),
-        Node::Column(column) => Ok(key_cell(columns, key, column)),
+        Node::Column(column) => Ok(key_cell(group, column)),
         Node::Negate(a) => sub(View::Int(0), results.value(a)?),
         Node::Binary(op, a, b) => applied(op, results.value(a), results.value(b)),
         _ => Ok(View::Null),
@@ -193,7 +195,7 @@ fn value_on<'a>(
 {
     match aggregate_in(node) {
         Some(which) => told_at(group.folds, next, which),
-        None => value_of(terms, node, group.columns, group.key, results),
+        None => value_of(terms, group, node, results),
     }
 }
 
