@@ -28,7 +28,7 @@ Exit status:
   3  opening, reading or writing failed, or memory ran out before the first statement";
 
 /// The format of the replies.
-#[derive(Debug, Clone, Copy, PartialEq, Eq)]
+#[derive(Clone, Copy, PartialEq, Eq)]
 pub enum Format {
     /// Lines of values separated by bars, and a count.
     Table,
@@ -43,7 +43,7 @@ pub enum Format {
 }
 
 /// An input of a run.
-#[derive(Debug, Clone, Copy, PartialEq, Eq)]
+#[derive(Clone, Copy)]
 pub enum Input<'a> {
     /// The standard input.
     Standard,
@@ -54,7 +54,7 @@ pub enum Input<'a> {
 }
 
 /// The parsed command line.
-#[derive(Debug, Drop)]
+#[derive(Drop)]
 pub struct CommandLine<'a> {
     /// Whether the scripts are checked, and not run.
     pub check: bool,
