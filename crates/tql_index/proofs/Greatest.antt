@@ -8,7 +8,7 @@ use Rattle.tql_spec.specs.Bag.{SameBag}
 use Rattle.tql_index.specs.Entry.{Entry, Removes}
 use Rattle.tql_index.specs.Line.{first_place}
 use Rattle.tql_index.specs.Tree.{greatest_end, WasGreatest}
-use Rattle.tql_index.proofs.Around.{count-cons, bit_none, bit_of_none}
+use Rattle.tql_index.proofs.Counts.{count-cons, bit_none, bit_of_none}
 use Rattle.tql_index.proofs.Branches.{least_below, greatest_end-append}
 
 -- whether an entry ends after g
@@ -60,30 +60,38 @@ greatest_of_bag xs ys h =
     let b = not_less xs ys h in
     omega (arith, ints, a, b)
 
--- an entry is added on one side
-pub more_right : (e t : Entry) (l r k : List Entry) (g m : ℤ) → g ≡ greatest_end (l ++ t ∷ r) → SameBag k (e ∷ r)
-    → m ≡ int_max g e.period.end → m ≡ greatest_end (l ++ t ∷ k)
-more_right e t l r k g m h s n =
-    let a = greatest_end-append l (t ∷ r) in
-    let b = greatest_end-append l (t ∷ k) in
-    let d = greatest_of_bag k (e ∷ r) s in
-    omega (arith, ints, clamps, a, b, d, h, n)
-
-pub more_left : (e t : Entry) (l r k : List Entry) (g m : ℤ) → g ≡ greatest_end (l ++ t ∷ r) → SameBag k (e ∷ l)
-    → m ≡ int_max g e.period.end → m ≡ greatest_end (k ++ t ∷ r)
-more_left e t l r k g m h s n =
-    let a = greatest_end-append l (t ∷ r) in
-    let b = greatest_end-append k (t ∷ r) in
-    let d = greatest_of_bag k (e ∷ l) s in
-    omega (arith, ints, clamps, a, b, d, h, n)
+-- the greatest end before an entry is added, if it is
+pub greatest_more : (e : Entry) (old new : List Entry) (g n : ℤ) → g ≡ greatest_end old → n ≡ e.period.end
+    → SameBag new (e ∷ old) → int_max g n ≡ greatest_end new
+greatest_more e old new g n h f s =
+    let d = greatest_of_bag new (e ∷ old) s in
+    omega (arith, ints, clamps, h, f, d)
 
 -- the greatest end from before a removal
-pub greatest_before : (b : Bool) (e : Entry) (old new : List Entry) (g : ℤ) → Removes b e old new
-    → g ≡ greatest_end old → WasGreatest b e.period.end g new
-greatest_before true e old new g s h = h ∙ greatest_of_bag old (e ∷ new) s
-greatest_before false e old new g s h = h ∙ ap greatest_end (sym s.0)
+pub greatest_before : (b : Bool) (e : Entry) (old new : List Entry) (g n : ℤ) → Removes b e old new
+    → g ≡ greatest_end old → n ≡ e.period.end → WasGreatest b n g new
+greatest_before true e old new g n s h f = h ∙ greatest_of_bag old (e ∷ new) s ∙ rw f refl
+greatest_before false e old new g n s h f = h ∙ ap greatest_end (sym s.0)
 
--- the greatest end from before the removal of the first entry
-pub first_before : (m t : Entry) (l k r : List Entry) (g n : ℤ) → l ≡ m ∷ k → g ≡ greatest_end (l ++ t ∷ r)
-    → n ≡ m.period.end → g ≡ int_max n (greatest_end (k ++ t ∷ r))
-first_before m t l k r g n e h f = rw f (rw e at h)
+-- the greatest end from before the removal of the first entries
+pub first_before : (m l k r : List Entry) (g n : ℤ) → l ≡ m ++ k → g ≡ greatest_end (l ++ r) → n ≡ greatest_end m
+    → g ≡ int_max n (greatest_end (k ++ r))
+first_before m l k r g n e h f =
+    let a = rw e at h in
+    let b = greatest_end-append (m ++ k) r in
+    let c = greatest_end-append m k in
+    let d = greatest_end-append k r in
+    omega (arith, ints, clamps, a, b, c, d, f)
+
+-- the greatest end before first entries are added
+pub first_more : (m l k r : List Entry) (g n : ℤ) → k ≡ m ++ l → g ≡ greatest_end (l ++ r) → n ≡ greatest_end m
+    → int_max g n ≡ greatest_end (k ++ r)
+first_more m l k r g n e h f =
+    let b = greatest_end-append (m ++ l) r in
+    let c = greatest_end-append m l in
+    let d = greatest_end-append l r in
+    rw e (omega (arith, ints, clamps, h, b, c, d, f))
+
+-- the greatest end stays if the entry that was removed ends before
+pub still_greatest : (n g m : ℤ) → g ≡ int_max n m → int_lt n g ≡ true → g ≡ m
+still_greatest n g m h k = grind (arith, ints, clamps, h, k)

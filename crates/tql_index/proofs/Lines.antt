@@ -53,7 +53,8 @@ ends_order g h s t e f a b =
     let y = placed h t in
     let p = int_cmp (placed g e) (placed h f) in
     by_lt_z x y
-    (λ l. ap (λ o. ordering_then o (int_cmp e f)) (int_less x y l) ∙ sym (ap (λ o. ordering_then o p) (int_less x y l)))
+    (λ l. ap (λ o. ordering_then o (int_cmp e f)) (int_less x y l) ∙ sym
+    (ap (λ o. ordering_then o p) (int_less x y l)))
     (λ l. by_lt_z y x
     (λ m. ap (λ o. ordering_then o (int_cmp e f)) (int_greater x y m)
     ∙ sym (ap (λ o. ordering_then o p) (int_greater x y m)))

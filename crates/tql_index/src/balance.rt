@@ -1,8 +1,9 @@
 //! Builds balanced trees from sides whose heights differ by at most two.
-ghost use Rattle.std.specs.Prelude.{◌≡◌, ◌+◌, ◌≤◌, max, ◌∷◌, ◌++◌};
+ghost use Rattle.std.specs.Prelude.{◌≡◌, ◌+◌, ◌<◌, ◌≤◌, max, ◌++◌, length};
 ghost use Rattle.tql_index.specs.Line.{place_of};
-ghost use Rattle.tql_index.specs.Tree.{greatest_end, DifferByAtMost, IsAround, IsHeightAfterBalance, WasGreatest};
-ghost use Rattle.tql_index.specs.Nodes.{entry_of};
+ghost use Rattle.tql_index.specs.Tree.{greatest_end, DifferByAtMost, IsHeightAfterBalance, IsInOrder};
+ghost use Rattle.tql_index.specs.Tree.{WasGreatest, WillBeGreatest};
+ghost use Rattle.tql_index.specs.Nodes.{entries_below};
 
 use crate::line::Place;
 use crate::tree::{Branch, Parts, Tree, hold, link};
@@ -10,14 +11,13 @@ use std::alloc::Allocator;
 use std::mem;
 
 // Builds a balanced tree from a branch whose sides were changed in place. Its greatest end must be up to date.
-pub fn settle<A: Allocator>(top: Box<Branch<A>, A>) -> Tree<A>
-    requires around { IsAround (entry_of top.value) top.value.left.entries top.value.right.entries }
+fn settle<A: Allocator>(top: Box<Branch<A>, A>) -> Tree<A>
+    requires some { 0 < length top.value.run }
+    requires in_order { IsInOrder (entries_below top.value) }
     requires near { DifferByAtMost 2 top.value.left.height top.value.right.height }
     requires room { max top.value.left.height top.value.right.height ≤ 200 }
-    requires greatest { place_of top.value.greatest ≡ greatest_end
-        (top.value.left.entries ++ entry_of top.value ∷ top.value.right.entries) }
-    ensures entries { result.entries
-        ≡ top.value.left.entries ++ entry_of top.value ∷ top.value.right.entries }
+    requires greatest { place_of top.value.greatest ≡ greatest_end (entries_below top.value) }
+    ensures entries { result.entries ≡ entries_below top.value }
     ensures height { IsHeightAfterBalance top.value.left.height top.value.right.height result.height }
 {
     let (left, right) = (top.left.height(), top.right.height());
@@ -31,11 +31,11 @@ pub fn settle<A: Allocator>(top: Box<Branch<A>, A>) -> Tree<A>
 // As `settle`, from the separate sides. It is called seldom and is a separate function to keep the others short.
 #[inline(never)]
 fn turn<A: Allocator>(mut top: Box<Branch<A>, A>) -> Tree<A>
-    requires around { IsAround (entry_of top.value) top.value.left.entries top.value.right.entries }
+    requires some { 0 < length top.value.run }
+    requires in_order { IsInOrder (entries_below top.value) }
     requires near { DifferByAtMost 2 top.value.left.height top.value.right.height }
     requires room { max top.value.left.height top.value.right.height ≤ 200 }
-    ensures entries { result.entries
-        ≡ top.value.left.entries ++ entry_of top.value ∷ top.value.right.entries }
+    ensures entries { result.entries ≡ entries_below top.value }
     ensures height { IsHeightAfterBalance top.value.left.height top.value.right.height result.height }
 {
     let left = mem::replace(&mut top.left, Tree::new());
@@ -43,16 +43,34 @@ fn turn<A: Allocator>(mut top: Box<Branch<A>, A>) -> Tree<A>
     balance(left, top, right)
 }
 
-// As `settle`, after an entry that ends at `end` was removed from a side, if `found`. The branch still has its old
-// greatest end, which is recomputed only if the removed entry may have been the last to end.
+// As `settle`, after entries of which the last to end ends at `end` were added to a side or to the run, if `added`. The
+// branch still has its old greatest end.
+pub fn settle_more<A: Allocator>(mut top: Box<Branch<A>, A>, added: bool, end: Place) -> Tree<A>
+    requires some { 0 < length top.value.run }
+    requires in_order { IsInOrder (entries_below top.value) }
+    requires near { DifferByAtMost 2 top.value.left.height top.value.right.height }
+    requires room { max top.value.left.height top.value.right.height ≤ 200 }
+    requires greatest { WillBeGreatest added (place_of end) (place_of top.value.greatest)
+        (entries_below top.value) }
+    ensures entries { result.entries ≡ entries_below top.value }
+    ensures height { IsHeightAfterBalance top.value.left.height top.value.right.height result.height }
+{
+    if added {
+        top.greatest = top.greatest.later(end);
+    }
+    settle(top)
+}
+
+// As `settle`, after an entry that ends at `end` was removed from a side or from the run, if `found`. The branch still
+// has its old greatest end, which is recomputed only if the removed entry may have been the last to end.
 pub fn settle_less<A: Allocator>(mut top: Box<Branch<A>, A>, found: bool, end: Place) -> Tree<A>
-    requires around { IsAround (entry_of top.value) top.value.left.entries top.value.right.entries }
+    requires some { 0 < length top.value.run }
+    requires in_order { IsInOrder (entries_below top.value) }
     requires near { DifferByAtMost 2 top.value.left.height top.value.right.height }
     requires room { max top.value.left.height top.value.right.height ≤ 200 }
     requires greatest { WasGreatest found (place_of end) (place_of top.value.greatest)
-        (top.value.left.entries ++ entry_of top.value ∷ top.value.right.entries) }
-    ensures entries { result.entries
-        ≡ top.value.left.entries ++ entry_of top.value ∷ top.value.right.entries }
+        (entries_below top.value) }
+    ensures entries { result.entries ≡ entries_below top.value }
     ensures height { IsHeightAfterBalance top.value.left.height top.value.right.height result.height }
 {
     if found && !end.is_before(top.greatest) {
@@ -61,12 +79,13 @@ pub fn settle_less<A: Allocator>(mut top: Box<Branch<A>, A>, found: bool, end: P
     settle(top)
 }
 
-// Builds a balanced tree from two sides and the entry between them.
+// Builds a balanced tree from two sides and the run between them.
 pub fn balance<A: Allocator>(left: Tree<A>, top: Box<Branch<A>, A>, right: Tree<A>) -> Tree<A>
-    requires around { IsAround (entry_of top.value) left.entries right.entries }
+    requires some { 0 < length top.value.run }
+    requires in_order { IsInOrder (left.entries ++ (top.value.run ++ right.entries)) }
     requires near { DifferByAtMost 2 left.height right.height }
     requires room { max left.height right.height ≤ 200 }
-    ensures entries { result.entries ≡ left.entries ++ entry_of top.value ∷ right.entries }
+    ensures entries { result.entries ≡ left.entries ++ (top.value.run ++ right.entries) }
     ensures height { IsHeightAfterBalance left.height right.height result.height }
 {
     let (left_height, right_height) = (left.height(), right.height());
@@ -81,10 +100,11 @@ pub fn balance<A: Allocator>(left: Tree<A>, top: Box<Branch<A>, A>, right: Tree<
 
 // Balances a left side that is two higher. The top of that side, or of its inner side, becomes the top.
 fn lean_right<A: Allocator>(left: Tree<A>, top: Box<Branch<A>, A>, right: Tree<A>) -> Tree<A>
-    requires around { IsAround (entry_of top.value) left.entries right.entries }
+    requires some { 0 < length top.value.run }
+    requires in_order { IsInOrder (left.entries ++ (top.value.run ++ right.entries)) }
     requires two_higher { left.height ≡ right.height + 2 }
     requires room { left.height ≤ 200 }
-    ensures entries { result.entries ≡ left.entries ++ entry_of top.value ∷ right.entries }
+    ensures entries { result.entries ≡ left.entries ++ (top.value.run ++ right.entries) }
     ensures not_lower { left.height ≤ result.height }
     ensures at_most_one_higher { result.height ≤ left.height + 1 }
 {
@@ -116,10 +136,11 @@ fn lean_right<A: Allocator>(left: Tree<A>, top: Box<Branch<A>, A>, right: Tree<A
 
 // Balances a right side that is two higher. The top of that side, or of its inner side, becomes the top.
 fn lean_left<A: Allocator>(left: Tree<A>, top: Box<Branch<A>, A>, right: Tree<A>) -> Tree<A>
-    requires around { IsAround (entry_of top.value) left.entries right.entries }
+    requires some { 0 < length top.value.run }
+    requires in_order { IsInOrder (left.entries ++ (top.value.run ++ right.entries)) }
     requires two_higher { right.height ≡ left.height + 2 }
     requires room { right.height ≤ 200 }
-    ensures entries { result.entries ≡ left.entries ++ entry_of top.value ∷ right.entries }
+    ensures entries { result.entries ≡ left.entries ++ (top.value.run ++ right.entries) }
     ensures not_lower { right.height ≤ result.height }
     ensures at_most_one_higher { result.height ≤ right.height + 1 }
 {

@@ -1,51 +1,134 @@
 //! Inserts and removes entries in place. A branch is changed wherever one of its sides is.
-ghost use Rattle.std.specs.Prelude.{◌≡◌, ◌+◌, ◌≤◌, max, [], ◌∷◌, ◌++◌, IfSome, IfNone};
+ghost use Rattle.std.specs.Prelude.{◌≡◌, ◌+◌, ◌<◌, ◌≤◌, max, [], ◌∷◌, ◌++◌, length};
+ghost use Rattle.std.specs.Prelude.{IfOk, IfSome, IfNone, OnOk, OnErr};
+ghost use Rattle.std.specs.declared.cmp.Ordering.TheVariants.{Equal};
 ghost use Rattle.tql_spec.specs.Bag.{SameBag};
 ghost use Rattle.tql_index.specs.Entry.{Removes};
-ghost use Rattle.tql_index.specs.Spans.{span_of};
-ghost use Rattle.tql_index.specs.Tree.{DifferByAtMost, IsAround};
-ghost use Rattle.tql_index.specs.Nodes.{entry_of, IsWithoutLeast};
+ghost use Rattle.tql_index.specs.Line.{place_of};
+ghost use Rattle.tql_index.specs.Slots.{entry_of};
+ghost use Rattle.tql_index.specs.Tree.{DifferByAtMost, HasRoom, IsInOrder, WasGreatest};
+ghost use Rattle.tql_index.specs.Nodes.{entries_below, IsWithoutLeast};
 
-use crate::balance::{balance, settle, settle_less};
-use crate::span::Span;
+use crate::balance::{balance, settle_less, settle_more};
+use crate::line::Place;
+use crate::run::Run;
+use crate::slot::Slot;
 use crate::tree::{Branch, Tree, link};
-use std::alloc::Allocator;
+use std::alloc::{AllocError, Allocator};
 use std::cmp::Ordering;
 use std::mem;
 
 // Returns the tree of one entry.
 #[inline(never)]
-fn alone<A: Allocator>(entry: Box<Branch<A>, A>) -> Tree<A>
-    ensures { result ≡ record { entries = entry_of entry.value ∷ []; height = 1 } }
+fn alone<A: Allocator + Copy>(memory: A, slot: Slot) -> Result<Tree<A>, AllocError>
+    ensures { IfOk result (λ tree. tree ≡ record { entries = entry_of slot ∷ []; height = 1 }) }
 {
-    link(Tree::new(), entry, Tree::new())
+    let run = Run::of(memory, slot)?;
+    let top = Branch::new(memory, run)?;
+    Ok(link(Tree::new(), top, Tree::new()))
 }
 
-// Inserts an entry. It comes as a branch with its memory, so nothing is allocated.
-pub fn insert<A: Allocator>(tree: &mut Tree<A>, entry: Box<Branch<A>, A>)
+// Inserts a run before all entries. It comes as a branch with its memory, so nothing is allocated.
+fn insert_least<A: Allocator>(tree: &mut Tree<A>, least: Box<Branch<A>, A>)
+    requires some { 0 < length least.value.run }
+    requires in_order { IsInOrder (least.value.run ++ tree.old.entries) }
     requires room { tree.old.height ≤ 199 }
-    ensures entries { SameBag tree.new.entries (entry_of entry.value ∷ tree.old.entries) }
+    ensures entries { tree.new.entries ≡ least.value.run ++ tree.old.entries }
     ensures not_lower { tree.old.height ≤ tree.new.height }
     ensures at_most_one_higher { tree.new.height ≤ tree.old.height + 1 }
 {
     let Some(mut top) = tree.take() else {
-        *tree = alone(entry);
+        *tree = link(Tree::new(), least, Tree::new());
         return;
     };
-    top.greatest = top.greatest.later(entry.span.end());
-    if top.compare(entry.span, entry.id).is_gt() {
-        insert(&mut top.right, entry);
-        *tree = settle(top);
-    } else {
-        insert(&mut top.left, entry);
-        *tree = settle(top);
+    let last = least.run.end();
+    insert_least(&mut top.left, least);
+    *tree = settle_more(top, true, last);
+}
+
+// Returns where an entry is to be inserted: into the left side, the branch's run or the right side. An entry outside
+// the run goes into it if the side there is empty and the run has room. If the run is full, the entry begins a run of
+// its own, which entries in ascending order then fill.
+fn room_for<A: Allocator>(top: &Branch<A>, slot: Slot) -> Ordering
+    requires some { 0 < length top.now.run }
+    requires in_order { IsInOrder (entries_below top.now) }
+    ensures { HasRoom result (entry_of slot) top.now.left.entries top.now.run top.now.right.entries }
+{
+    match top.run.side(slot) {
+        Ordering::Less if top.left.is_empty() && !top.run.is_full() => Ordering::Equal,
+        Ordering::Greater if top.right.is_empty() && !top.run.is_full() => Ordering::Equal,
+        side => side,
     }
 }
 
-// Removes the first entry of a tree and returns it.
+// Adds an entry to the run of a branch. If the run is full, its upper half moves into the right side. The branch keeps
+// its greatest end.
+fn put<A: Allocator + Copy>(top: &mut Branch<A>, slot: Slot, memory: A) -> Result<(), AllocError>
+    requires some { 0 < length top.old.run }
+    requires in_order { IsInOrder (entries_below top.old) }
+    requires place { HasRoom Equal (entry_of slot) top.old.left.entries top.old.run top.old.right.entries }
+    requires room { top.old.right.height ≤ 199 }
+    ensures added { OnOk result (SameBag (entries_below top.new) (entry_of slot ∷ entries_below top.old)) }
+    ensures unchanged { OnErr result (top.new ≡ top.old) }
+    ensures some { 0 < length top.new.run }
+    ensures in_order { IsInOrder (entries_below top.new) }
+    ensures left { top.new.left ≡ top.old.left }
+    ensures greatest { top.new.greatest ≡ top.old.greatest }
+    ensures not_lower { top.old.right.height ≤ top.new.right.height }
+    ensures at_most_one_higher { top.new.right.height ≤ top.old.right.height + 1 }
+{
+    if !top.run.is_full() {
+        let answer = top.run.put(slot);
+        top.run.know();
+        return answer;
+    }
+    let mut upper = Branch::new(memory, Run::new(memory))?;
+    top.run.put_halved(slot, &mut upper.run)?;
+    insert_least(&mut top.right, upper);
+    Ok(())
+}
+
+// Inserts an entry. If out of memory, the entries stay as they are.
+pub fn insert<A: Allocator + Copy>(
+    tree: &mut Tree<A>,
+    slot: Slot,
+    memory: A,
+) -> Result<(), AllocError>
+    requires room { tree.old.height ≤ 199 }
+    ensures added { OnOk result (SameBag tree.new.entries (entry_of slot ∷ tree.old.entries)) }
+    ensures unchanged { OnErr result (tree.new.entries ≡ tree.old.entries) }
+    ensures not_lower { tree.old.height ≤ tree.new.height }
+    ensures at_most_one_higher { tree.new.height ≤ tree.old.height + 1 }
+{
+    let Some(mut top) = tree.take() else {
+        *tree = alone(memory, slot)?;
+        return Ok(());
+    };
+    match room_for(&top, slot) {
+        Ordering::Less => {
+            let answer = insert(&mut top.left, slot, memory);
+            top.left.know();
+            *tree = settle_more(top, answer.is_ok(), slot.span.end());
+            answer
+        }
+        Ordering::Equal => {
+            let answer = put(&mut top, slot, memory);
+            *tree = settle_more(top, answer.is_ok(), slot.span.end());
+            answer
+        }
+        Ordering::Greater => {
+            let answer = insert(&mut top.right, slot, memory);
+            top.right.know();
+            *tree = settle_more(top, answer.is_ok(), slot.span.end());
+            answer
+        }
+    }
+}
+
+// Removes the first run of a tree and returns it.
 fn take_least<A: Allocator>(tree: &mut Tree<A>) -> Option<Box<Branch<A>, A>>
     requires room { tree.old.height ≤ 199 }
-    ensures some { IfSome result (λ b. IsWithoutLeast tree.old (entry_of b.value) tree.new) }
+    ensures some { IfSome result (λ b. IsWithoutLeast tree.old b.value.run tree.new) }
     ensures none { IfNone result (tree.old ≡ record { entries = []; height = 0 }) }
 {
     let mut top = tree.take()?;
@@ -53,14 +136,14 @@ fn take_least<A: Allocator>(tree: &mut Tree<A>) -> Option<Box<Branch<A>, A>>
         *tree = mem::replace(&mut top.right, Tree::new());
         return Some(top);
     };
-    *tree = settle_less(top, true, least.span.end());
+    *tree = settle_less(top, true, least.run.end());
     Some(least)
 }
 
-// Returns the tree of a branch's sides, without the entry between them.
+// Returns the tree of a branch's sides, without the run between them.
 #[inline(never)]
 fn without_top<A: Allocator>(mut top: Box<Branch<A>, A>) -> Tree<A>
-    requires around { IsAround (entry_of top.value) top.value.left.entries top.value.right.entries }
+    requires in_order { IsInOrder (top.value.left.entries ++ top.value.right.entries) }
     requires balanced { DifferByAtMost 1 top.value.left.height top.value.right.height }
     requires room { max top.value.left.height top.value.right.height ≤ 199 }
     ensures entries { result.entries ≡ top.value.left.entries ++ top.value.right.entries }
@@ -75,30 +158,52 @@ fn without_top<A: Allocator>(mut top: Box<Branch<A>, A>) -> Tree<A>
     }
 }
 
-// Removes one entry with this span and number, if there is one. Returns whether there was.
-pub fn remove<A: Allocator>(tree: &mut Tree<A>, span: Span, id: usize) -> bool
+// Returns the tree of a branch after an entry that ends at `end` was removed from its run, if `found`. The branch still
+// has its old greatest end. A run that became empty is removed with its branch.
+fn settle_run<A: Allocator>(top: Box<Branch<A>, A>, found: bool, end: Place) -> Tree<A>
+    requires in_order { IsInOrder (entries_below top.value) }
+    requires balanced { DifferByAtMost 1 top.value.left.height top.value.right.height }
+    requires room { max top.value.left.height top.value.right.height ≤ 199 }
+    requires greatest { WasGreatest found (place_of end) (place_of top.value.greatest)
+        (entries_below top.value) }
+    ensures entries { result.entries ≡ entries_below top.value }
+    ensures not_lower { max top.value.left.height top.value.right.height ≤ result.height }
+    ensures at_most_one_higher { result.height ≤ max top.value.left.height top.value.right.height + 1 }
+{
+    if top.run.is_empty() {
+        without_top(top)
+    } else {
+        settle_less(top, found, end)
+    }
+}
+
+// Removes one entry that equals another one, if there is one. Returns whether there was.
+pub fn remove<A: Allocator>(tree: &mut Tree<A>, slot: Slot) -> bool
     requires room { tree.old.height ≤ 199 }
-    ensures entries { Removes result (record { period = span_of span; id = id })
-        tree.old.entries tree.new.entries }
+    ensures entries { Removes result (entry_of slot) tree.old.entries tree.new.entries }
     ensures not_higher { tree.new.height ≤ tree.old.height }
     ensures at_most_one_lower { tree.old.height ≤ tree.new.height + 1 }
 {
     let Some(mut top) = tree.take() else {
         return false;
     };
-    match top.compare(span, id) {
+    match top.run.side(slot) {
         Ordering::Less => {
-            let found = remove(&mut top.left, span, id);
-            *tree = settle_less(top, found, span.end());
+            let found = remove(&mut top.left, slot);
+            top.left.know();
+            *tree = settle_less(top, found, slot.span.end());
             found
         }
         Ordering::Equal => {
-            *tree = without_top(top);
-            true
+            let found = top.run.remove(slot);
+            top.run.know();
+            *tree = settle_run(top, found, slot.span.end());
+            found
         }
         Ordering::Greater => {
-            let found = remove(&mut top.right, span, id);
-            *tree = settle_less(top, found, span.end());
+            let found = remove(&mut top.right, slot);
+            top.right.know();
+            *tree = settle_less(top, found, slot.span.end());
             found
         }
     }

@@ -36,10 +36,10 @@ pub fn stab<A: Allocator>(
         return Ok(());
     }
     stab(&top.left, place, found)?;
-    if place.is_before(top.span.start()) {
+    let goes_on = top.run.find_at(place, found)?;
+    if !goes_on {
         return Ok(());
     }
-    push_if(found, top.span.holds(place), top.id)?;
     stab(&top.right, place, found)
 }
 
@@ -61,9 +61,9 @@ pub fn overlapping<A: Allocator>(
         return Ok(());
     }
     overlapping(&top.left, from, to, found)?;
-    if !top.span.start().is_before(to) {
+    let goes_on = top.run.find_sharing(from, to, found)?;
+    if !goes_on {
         return Ok(());
     }
-    push_if(found, top.span.shares(from, to), top.id)?;
     overlapping(&top.right, from, to, found)
 }

@@ -1,15 +1,17 @@
-//! A balanced tree of entries. Its model is the entries in order and the height. Only `hold` puts a branch into a tree.
-//! `take` takes it out to be changed in place, and `unlink` splits a tree into its parts.
-ghost use Rattle.std.specs.Prelude.{◌≡◌, ◌+◌, ◌^◌, ◌<◌, max, [], ◌∷◌, ◌++◌, length, IfSome, IfNone};
+//! A balanced tree of runs of entries. Its model is the entries in order and the height. Only `hold` puts a branch into
+//! a tree. `take` takes it out to be changed in place, and `unlink` splits a tree into its parts.
+//!
+//! A branch keeps a run of some 16 to 32 entries rather than one, so that a search follows fewer pointers and an entry
+//! takes less memory. The entries of the left side, of the run and of the right side follow each other in order.
+ghost use Rattle.std.specs.Prelude.{◌≡◌, ◌+◌, ◌*◌, ◌^◌, ◌<◌, ◌≤◌, max, [], ◌++◌, length, IfOk, IfSome, IfNone};
+ghost use Rattle.std.specs.Bool.{OnTrue};
 ghost use Rattle.tql_index.specs.Line.{place_of};
-ghost use Rattle.tql_index.specs.Spans.{span_of};
-ghost use Rattle.tql_index.specs.Tree.{entry_cmp, greatest_end, DifferByAtMost, IsAround, IsShallow};
-ghost use Rattle.tql_index.specs.Nodes.{entry_of, IsParted, IsTop};
+ghost use Rattle.tql_index.specs.Tree.{greatest_end, DifferByAtMost, IsInOrder, IsShallow};
+ghost use Rattle.tql_index.specs.Nodes.{entries_below, IsParted, IsTop};
 
 use crate::line::Place;
-use crate::span::Span;
-use std::alloc::Allocator;
-use std::cmp::Ordering;
+use crate::run::Run;
+use std::alloc::{AllocError, Allocator};
 use std::marker::Model;
 use std::mem;
 
@@ -27,15 +29,14 @@ pub enum Root<A: Allocator> {
     At { height: u8, top: Box<Branch<A>, A> },
 }
 
-// An entry, the entries to its left and to its right, and the greatest end of all of them.
+// A run of entries, the entries to its left and to its right, and the greatest end of all of them.
 #[cycle(tree)]
 #[derive(Drop)]
 pub struct Branch<A: Allocator> {
     pub left: Tree<A>,
-    pub span: Span,
-    pub id: usize,
-    pub greatest: Place,
     pub right: Tree<A>,
+    pub greatest: Place,
+    pub run: Run<A>,
 }
 
 // A tree that was split at its top.
@@ -66,34 +67,26 @@ impl<A: Allocator> Model for Tree<A> {
 }
 
 impl<A: Allocator> Branch<A> {
-    // Creates a branch with empty sides.
-    pub fn new(span: Span, id: usize) -> Branch<A>
-        ensures { entry_of result ≡ record { period = span_of span; id = id } }
+    // Creates a branch of a run, with empty sides.
+    pub fn new(memory: A, run: Run<A>) -> Result<Box<Branch<A>, A>, AllocError>
+        ensures { IfOk result (λ b. b.value.run ≡ run) }
     {
-        Branch {
+        let branch = Branch {
             left: Tree::new(),
-            span,
-            id,
-            greatest: span.end(),
             right: Tree::new(),
-        }
+            greatest: run.end(),
+            run,
+        };
+        Ok(Box::new(memory, branch)?)
     }
 
-    // Compares an entry with this one: by start, then by end, then by number.
-    pub fn compare(&self, span: Span, id: usize) -> Ordering
-        ensures { result ≡ entry_cmp (record { period = span_of span; id = id }) (entry_of self.now) }
-    {
-        span.compare(self.span).then(id.cmp(&self.id))
-    }
-
-    // Computes the greatest end of the branch's entry and of the entries in its sides.
+    // Computes the greatest end of the entries of the branch's run and of its sides.
     pub fn greatest_end(&self) -> Place
-        ensures { place_of result ≡ greatest_end
-            (self.now.left.entries ++ entry_of self.now ∷ self.now.right.entries) }
+        ensures { place_of result ≡ greatest_end (entries_below self.now) }
     {
         self.left
             .greatest()
-            .later(self.span.end())
+            .later(self.run.end())
             .later(self.right.greatest())
     }
 }
@@ -115,10 +108,21 @@ impl<A: Allocator> Tree<A> {
         }
     }
 
-    // States what the height says about the number of entries. Does nothing.
+    // Whether there are no entries.
+    pub fn is_empty(&self) -> bool
+        ensures { OnTrue result (self.now.entries ≡ []) }
+    {
+        match &self.root {
+            Root::Empty => true,
+            Root::At { .. } => false,
+        }
+    }
+
+    // States what is known of each tree, as what the height says about the number of entries. Does nothing.
     pub fn know(&self)
         ensures shallow { IsShallow self.now.height (length self.now.entries) }
-        ensures deep { length self.now.entries < 2 ^ self.now.height }
+        ensures deep { length self.now.entries + 32 ≤ 32 * 2 ^ self.now.height }
+        ensures in_order { IsInOrder self.now.entries }
     {
         let _root = &self.root;
     }
@@ -174,30 +178,29 @@ impl<A: Allocator> Tree<A> {
 
 // Makes a tree of a branch with its sides. The branch's greatest end and the height must be right.
 pub fn hold<A: Allocator>(top: Box<Branch<A>, A>, height: u8) -> Tree<A>
-    requires around { IsAround (entry_of top.value) top.value.left.entries top.value.right.entries }
+    requires some { 0 < length top.value.run }
+    requires in_order { IsInOrder (entries_below top.value) }
     requires balanced { DifferByAtMost 1 top.value.left.height top.value.right.height }
     requires height { height ≡ max top.value.left.height top.value.right.height + 1 }
-    requires greatest { place_of top.value.greatest ≡ greatest_end
-        (top.value.left.entries ++ entry_of top.value ∷ top.value.right.entries) }
-    ensures { result ≡ record {
-      entries = top.value.left.entries ++ entry_of top.value ∷ top.value.right.entries;
-      height = height;
-    } }
+    requires greatest { place_of top.value.greatest ≡ greatest_end (entries_below top.value) }
+    ensures { result ≡ record { entries = entries_below top.value; height = height } }
 {
     top.left.know();
+    top.run.know();
     top.right.know();
     Tree {
         root: Root::At { height, top },
     }
 }
 
-// Makes a tree of two sides and the entry between them. The branch has the entry and its memory.
+// Makes a tree of two sides and the run between them. The branch has the run and its memory.
 pub fn link<A: Allocator>(left: Tree<A>, mut top: Box<Branch<A>, A>, right: Tree<A>) -> Tree<A>
-    requires around { IsAround (entry_of top.value) left.entries right.entries }
+    requires some { 0 < length top.value.run }
+    requires in_order { IsInOrder (left.entries ++ (top.value.run ++ right.entries)) }
     requires balanced { DifferByAtMost 1 left.height right.height }
     requires room { max left.height right.height + 1 < 256 }
     ensures { result ≡ record {
-      entries = left.entries ++ entry_of top.value ∷ right.entries;
+      entries = left.entries ++ (top.value.run ++ right.entries);
       height = max left.height right.height + 1;
     } }
 {

@@ -1,5 +1,5 @@
 //! An index that is a balanced tree.
-ghost use Rattle.std.specs.Prelude.{◌≡◌, ◌↔◌, ◌^◌, ◌<◌, ◌≤◌, [], length, IsTrue, IfOk};
+ghost use Rattle.std.specs.Prelude.{◌≡◌, ◌↔◌, ◌*◌, ◌^◌, ◌<◌, ◌≤◌, [], length, IsTrue, IfOk};
 ghost use Rattle.tql_spec.specs.Bag.{SameBag};
 ghost use Rattle.tql_index.specs.Entry.{ids_sharing};
 ghost use Rattle.tql_index.specs.Spans.{points_between};
@@ -9,8 +9,9 @@ use crate::edit::{insert, remove};
 use crate::index::{Id, IntervalIndex};
 use crate::line::Place;
 use crate::search::{overlapping, stab};
+use crate::slot::Slot;
 use crate::span::Span;
-use crate::tree::{Branch, Tree};
+use crate::tree::Tree;
 use std::alloc::AllocError;
 use std::marker::Model;
 use tql_memory::{Memory, one_more};
@@ -59,7 +60,7 @@ impl TreeIndex {
         ensures shallow { IsShallow result (length self.now) }
 
         // A tree with fewer levels has no room for these entries.
-        ensures deep { length self.now < 2 ^ result }
+        ensures deep { length self.now < 32 * 2 ^ result }
     {
         self.tree.know();
         usize::from(self.tree.height())
@@ -111,9 +112,8 @@ impl IntervalIndex for TreeIndex {
             count,
         } = self;
         let counted = one_more(*count)?;
-        let entry = Box::new(*memory, Branch::new(span, id))?;
         tree.know();
-        insert(tree, entry);
+        insert(tree, Slot { span, id }, *memory)?;
         *count = counted;
         Ok(())
     }
@@ -124,7 +124,7 @@ impl IntervalIndex for TreeIndex {
             return false;
         }
         tree.know();
-        let found = remove(tree, span, id);
+        let found = remove(tree, Slot { span, id });
         if found {
             *count -= 1;
         }

@@ -1,95 +1,129 @@
-use Rattle.std.proofs.Common.{ap, sym, subst, ◌∙◌, ◌≡◌}
-use Rattle.std.specs.Int.{int_max}
+use Rattle.std.specs.Prelude.{◌≡◌, ◌++◌}
+use Rattle.std.specs.declared.cmp.Ordering.TheVariants.{Less, Greater}
+use Rattle.std.proofs.Common.{ap, sym, subst, ◌∙◌}
 use Rattle.tql_index.specs.Line.{place_of}
-use Rattle.tql_index.specs.Spans.{span_of}
-use Rattle.tql_index.specs.Tree.{entry_cmp}
-use Rattle.tql_index.specs.Nodes.{entry_of}
+use Rattle.tql_index.specs.Slots.{entry_of}
+use Rattle.tql_index.specs.Tree.{HasRoom, IsInOrder}
+use Rattle.tql_index.specs.Nodes.{entries_below}
+use Rattle.tql_index.specs.declared.line.Place as line
 use Rattle.tql_index.specs.declared.tree.Branch.{Branch}
-use Rattle.tql_index.proofs.Adding.{around_more_left, around_more_right, left_more, right_more}
-use Rattle.tql_index.proofs.Branches.{greater_of}
-use Rattle.tql_index.proofs.Greatest.{more_left, more_right}
-use Rattle.tql_index.proofs.Order.{not_after, after_is}
-use Rattle.tql_index.proofs.Tops.{was_top, named}
+use Rattle.tql_index.proofs.Adding.{IsAdded, order_with_left, order_with_right, with_left, with_right, added_as}
+use Rattle.tql_index.proofs.Adding.{greatest_with, on_err}
+use Rattle.tql_index.proofs.Tops.{named_top}
 use Rattle.tql_index.proofs.edit.+insert.Goals as goal
 
-pub settle-requires-clause-around : goal.settle-requires-clause-around
-settle-requires-clause-around g t c =
-    let x = entry_of c.args.entry.value in
-    let top = c.in-Some.top.value in
-    let d = c.deref_mut-then-is_gt.result.now in
-    let p = named _ _ _ _ c.deref_mut-then-is_gt.ensures.value (named _ _ _ _ c.deref_mut.ensures.value
-    (was_top _ _ c.in-Some.ensures.some)) in
-    let o : c.compare.result ≡ entry_cmp x (entry_of d) =
-    subst (λ (b : Branch g.row.A.Denot). c.compare.result ≡ entry_cmp x (entry_of b))
-    (sym c.deref_mut-then-is_gt.ensures.value)
-    (rw (c.deref-3.ensures, c.deref-4.ensures, c.deref-5.ensures) at c.compare.ensures) in
-    around_more_right x (entry_of d) _ _ _
-    (after_is x (entry_of d) c.compare.result o (sym c.is_gt.ensures ∙ c.if-is_gt.true))
-    c.insert.ensures.entries p.1.around
+pub settle_more-requires-clause-in_order : goal.settle_more-requires-clause-in_order
+settle_more-requires-clause-in_order g t c =
+    let e = entry_of c.args.slot in
+    let d = c.deref_mut.result.now in
+    let p = named_top _ _ _ c.deref_mut.ensures.value c.in-Some.ensures.some in
+    let k = c.insert-answer.new.tree.entries in
+    let a : IsAdded c.insert-answer.result e d.left.entries k =
+    record { added = c.insert-answer.ensures.added; unchanged = c.insert-answer.ensures.unchanged } in
+    let room =
+    subst (λ (b : Branch g.row.A.Denot). HasRoom Less e b.left.entries b.run b.right.entries)
+    (c.deref.ensures ∙ sym c.deref_mut.ensures.value) c.in-Less.ensures in
+    let o =
+    subst (λ (b : Branch g.row.A.Denot). IsInOrder b.left.entries) c.deref-in-Less.ensures c.know.ensures.in_order in
+    order_with_left c.insert-answer.result e d.left.entries d.run d.right.entries k room a o p.branch.in_order
 
-pub settle-requires-clause-greatest : goal.settle-requires-clause-greatest
-settle-requires-clause-greatest g t c =
-    let x = entry_of c.args.entry.value in
-    let top = c.in-Some.top.value in
-    let d = c.deref_mut-then-is_gt.result.now in
-    let p = named _ _ _ _ c.deref_mut-then-is_gt.ensures.value (named _ _ _ _ c.deref_mut.ensures.value
-    (was_top _ _ c.in-Some.ensures.some)) in
-    let e = ap (λ (b : Branch g.row.A.Denot). (span_of b.span).end) c.deref-2.ensures in
-    let f = ap (λ (b : Branch g.row.A.Denot). place_of b.greatest) c.deref.ensures in
-    let u = ap (λ (b : Branch g.row.A.Denot). place_of b.greatest) c.deref_mut-then-is_gt.ensures.value in
-    let n : place_of d.greatest ≡ int_max (place_of top.greatest) x.period.end =
-    greater_of (place_of c.later.result) (place_of d.greatest) (place_of top.greatest) x.period.end
-    (place_of c.deref.result.now.greatest) (place_of c.end.result) c.later.ensures u f (c.end.ensures ∙ e) in
-    more_right x (entry_of d) d.left.entries d.right.entries c.insert.new.tree.entries (place_of top.greatest)
-    (place_of d.greatest)
-    p.1.greatest_is c.insert.ensures.entries n
+pub settle_more-requires-clause-greatest : goal.settle_more-requires-clause-greatest
+settle_more-requires-clause-greatest g t c =
+    let e = entry_of c.args.slot in
+    let d = c.deref_mut.result.now in
+    let p = named_top _ _ _ c.deref_mut.ensures.value c.in-Some.ensures.some in
+    let k = c.insert-answer.new.tree.entries in
+    let a : IsAdded c.insert-answer.result e d.left.entries k =
+    record { added = c.insert-answer.ensures.added; unchanged = c.insert-answer.ensures.unchanged } in
+    greatest_with c.insert-answer.result c.is_ok.result e
+    (d.left.entries ++ (d.run ++ d.right.entries)) (k ++ (d.run ++ d.right.entries)) (place_of d.greatest)
+    (place_of c.end.result) c.is_ok.ensures.value
+    (with_left c.insert-answer.result e d.left.entries d.run d.right.entries k a) p.branch.greatest_is
+    c.end.ensures
 
-pub returns-then-is_gt-clause-entries : goal.returns-then-is_gt-clause-entries
-returns-then-is_gt-clause-entries g t c =
-    let x = entry_of c.args.entry.value in
-    let top = c.in-Some.top.value in
-    let d = c.deref_mut-then-is_gt.result.now in
-    let p = named _ _ _ _ c.deref_mut-then-is_gt.ensures.value (named _ _ _ _ c.deref_mut.ensures.value
-    (was_top _ _ c.in-Some.ensures.some)) in
-    right_more x (entry_of d) _ _ _ _ _ p.0 c.settle.ensures.entries c.insert.ensures.entries
+pub returns-in-Less-clause-added : goal.returns-in-Less-clause-added
+returns-in-Less-clause-added g t c =
+    let e = entry_of c.args.slot in
+    let d = c.deref_mut.result.now in
+    let p = named_top _ _ _ c.deref_mut.ensures.value c.in-Some.ensures.some in
+    let k = c.insert-answer.new.tree.entries in
+    let a : IsAdded c.insert-answer.result e d.left.entries k =
+    record { added = c.insert-answer.ensures.added; unchanged = c.insert-answer.ensures.unchanged } in
+    let whole = added_as c.insert-answer.result e c.args.tree.now.entries c.settle_more.result.entries
+    (d.left.entries ++ (d.run ++ d.right.entries)) (k ++ (d.run ++ d.right.entries)) p.entries
+    c.settle_more.ensures.entries
+    (with_left c.insert-answer.result e d.left.entries d.run d.right.entries k a) in
+    whole.added
 
-pub settle-requires-else-is_gt-clause-around : goal.settle-requires-else-is_gt-clause-around
-settle-requires-else-is_gt-clause-around g t c =
-    let x = entry_of c.args.entry.value in
-    let top = c.in-Some.top.value in
-    let d = c.deref_mut-else-is_gt.result.now in
-    let p = named _ _ _ _ c.deref_mut-else-is_gt.ensures.value (named _ _ _ _ c.deref_mut.ensures.value
-    (was_top _ _ c.in-Some.ensures.some)) in
-    let o : c.compare.result ≡ entry_cmp x (entry_of d) =
-    subst (λ (b : Branch g.row.A.Denot). c.compare.result ≡ entry_cmp x (entry_of b))
-    (sym c.deref_mut-else-is_gt.ensures.value)
-    (rw (c.deref-3.ensures, c.deref-4.ensures, c.deref-5.ensures) at c.compare.ensures) in
-    around_more_left x (entry_of d) _ _ _
-    (not_after x (entry_of d) c.compare.result o (sym c.is_gt.ensures ∙ c.if-is_gt.false))
-    c.insert-else-is_gt.ensures.entries p.1.around
+pub settle_more-requires-in-Greater-clause-in_order : goal.settle_more-requires-in-Greater-clause-in_order
+settle_more-requires-in-Greater-clause-in_order g t c =
+    let e = entry_of c.args.slot in
+    let d = c.deref_mut-in-Greater.result.now in
+    let p = named_top _ _ _ c.deref_mut-in-Greater.ensures.value c.in-Some.ensures.some in
+    let k = c.insert-answer-in-Greater.new.tree.entries in
+    let a : IsAdded c.insert-answer-in-Greater.result e d.right.entries k =
+    record {
+      added = c.insert-answer-in-Greater.ensures.added;
+      unchanged =
+          c.insert-answer-in-Greater.ensures.unchanged;
+    } in
+    let room =
+    subst (λ (b : Branch g.row.A.Denot). HasRoom Greater e b.left.entries b.run b.right.entries)
+    (c.deref.ensures ∙ sym c.deref_mut-in-Greater.ensures.value) c.in-Greater.ensures in
+    let o =
+    subst (λ (b : Branch g.row.A.Denot). IsInOrder b.right.entries) c.deref-in-Greater.ensures
+    c.know-in-Greater.ensures.in_order in
+    order_with_right c.insert-answer-in-Greater.result e d.left.entries d.run d.right.entries k room a o
+    p.branch.in_order
 
-pub settle-requires-else-is_gt-clause-greatest : goal.settle-requires-else-is_gt-clause-greatest
-settle-requires-else-is_gt-clause-greatest g t c =
-    let x = entry_of c.args.entry.value in
-    let top = c.in-Some.top.value in
-    let d = c.deref_mut-else-is_gt.result.now in
-    let p = named _ _ _ _ c.deref_mut-else-is_gt.ensures.value (named _ _ _ _ c.deref_mut.ensures.value
-    (was_top _ _ c.in-Some.ensures.some)) in
-    let e = ap (λ (b : Branch g.row.A.Denot). (span_of b.span).end) c.deref-2.ensures in
-    let f = ap (λ (b : Branch g.row.A.Denot). place_of b.greatest) c.deref.ensures in
-    let u = ap (λ (b : Branch g.row.A.Denot). place_of b.greatest) c.deref_mut-else-is_gt.ensures.value in
-    let n : place_of d.greatest ≡ int_max (place_of top.greatest) x.period.end =
-    greater_of (place_of c.later.result) (place_of d.greatest) (place_of top.greatest) x.period.end
-    (place_of c.deref.result.now.greatest) (place_of c.end.result) c.later.ensures u f (c.end.ensures ∙ e) in
-    more_left x (entry_of d) d.left.entries d.right.entries c.insert-else-is_gt.new.tree.entries
-    (place_of top.greatest) (place_of d.greatest)
-    p.1.greatest_is c.insert-else-is_gt.ensures.entries n
+pub settle_more-requires-in-Greater-clause-greatest : goal.settle_more-requires-in-Greater-clause-greatest
+settle_more-requires-in-Greater-clause-greatest g t c =
+    let e = entry_of c.args.slot in
+    let d = c.deref_mut-in-Greater.result.now in
+    let p = named_top _ _ _ c.deref_mut-in-Greater.ensures.value c.in-Some.ensures.some in
+    let k = c.insert-answer-in-Greater.new.tree.entries in
+    let a : IsAdded c.insert-answer-in-Greater.result e d.right.entries k =
+    record {
+      added = c.insert-answer-in-Greater.ensures.added;
+      unchanged =
+          c.insert-answer-in-Greater.ensures.unchanged;
+    } in
+    greatest_with c.insert-answer-in-Greater.result c.is_ok-in-Greater.result e
+    (d.left.entries ++ (d.run ++ d.right.entries)) (d.left.entries ++ (d.run ++ k)) (place_of d.greatest)
+    (place_of c.end-in-Greater.result) c.is_ok-in-Greater.ensures.value
+    (with_right c.insert-answer-in-Greater.result e d.left.entries d.run d.right.entries k a) p.branch.greatest_is
+    c.end-in-Greater.ensures
 
-pub returns-else-is_gt-clause-entries : goal.returns-else-is_gt-clause-entries
-returns-else-is_gt-clause-entries g t c =
-    let x = entry_of c.args.entry.value in
-    let top = c.in-Some.top.value in
-    let d = c.deref_mut-else-is_gt.result.now in
-    let p = named _ _ _ _ c.deref_mut-else-is_gt.ensures.value (named _ _ _ _ c.deref_mut.ensures.value
-    (was_top _ _ c.in-Some.ensures.some)) in
-    left_more x (entry_of d) _ _ _ _ _ p.0 c.settle-else-is_gt.ensures.entries c.insert-else-is_gt.ensures.entries
+pub returns-in-Greater-clause-added : goal.returns-in-Greater-clause-added
+returns-in-Greater-clause-added g t c =
+    let e = entry_of c.args.slot in
+    let d = c.deref_mut-in-Greater.result.now in
+    let p = named_top _ _ _ c.deref_mut-in-Greater.ensures.value c.in-Some.ensures.some in
+    let k = c.insert-answer-in-Greater.new.tree.entries in
+    let a : IsAdded c.insert-answer-in-Greater.result e d.right.entries k =
+    record {
+      added = c.insert-answer-in-Greater.ensures.added;
+      unchanged =
+          c.insert-answer-in-Greater.ensures.unchanged;
+    } in
+    let whole = added_as c.insert-answer-in-Greater.result e c.args.tree.now.entries
+    c.settle_more-in-Greater.result.entries
+    (d.left.entries ++ (d.run ++ d.right.entries)) (d.left.entries ++ (d.run ++ k)) p.entries
+    c.settle_more-in-Greater.ensures.entries
+    (with_right c.insert-answer-in-Greater.result e d.left.entries d.run d.right.entries k a) in
+    whole.added
+
+pub settle_more-requires-in-Equal-clause-greatest : goal.settle_more-requires-in-Equal-clause-greatest
+settle_more-requires-in-Equal-clause-greatest g t c =
+    let e = entry_of c.args.slot in
+    let d = c.deref_mut-in-Equal.result.now in
+    let n = c.put-answer.new.top in
+    let p = named_top _ _ _ c.deref_mut-in-Equal.ensures.value c.in-Some.ensures.some in
+    let a : IsAdded c.put-answer.result e (entries_below d) (entries_below n) = record {
+      added = c.put-answer.ensures.added;
+      unchanged = on_err c.put-answer.result (λ (q : n ≡ d). ap (λ (b : Branch g.row.A.Denot). entries_below b) q)
+          c.put-answer.ensures.unchanged;
+    } in
+    greatest_with c.put-answer.result c.is_ok-in-Equal.result e (entries_below d) (entries_below n)
+    (place_of n.greatest) (place_of c.end-in-Equal.result) c.is_ok-in-Equal.ensures.value a
+    (ap (λ (z : line.Place). place_of z) c.put-answer.ensures.greatest ∙ p.branch.greatest_is) c.end-in-Equal.ensures

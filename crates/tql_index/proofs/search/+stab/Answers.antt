@@ -1,10 +1,11 @@
 use Rattle.std.specs.Prelude.{◌≡◌, pos, ◌+ℤ◌, false, int_lt}
-use Rattle.std.proofs.Common.{arith, refl, sym, ◌∙◌}
+use Rattle.std.proofs.Common.{arith, ap, sym, ◌∙◌}
 use Rattle.std.proofs.lemmas.Int.{ints}
 use Rattle.tql_spec.specs.Period.{holds}
 use Rattle.tql_index.specs.Line.{place_of}
 use Rattle.tql_index.specs.Entry.{Entry}
-use Rattle.tql_index.proofs.Finding.{nothing_here, left_alone, all_parts, at_point, on_ok}
+use Rattle.tql_index.specs.Tree.{greatest_end}
+use Rattle.tql_index.proofs.Finding.{nothing_here, left_alone, all_parts, at_point, on_ok, on_false}
 use Rattle.tql_index.proofs.search.+stab.Goals as goal
 
 pub returns-then-not-is_before : goal.returns-then-not-is_before
@@ -14,17 +15,17 @@ returns-then-not-is_before g t c =
     let q = λ (e : Entry). holds e.period x in
     let n : int_lt x (place_of c.in-Some.top.now.greatest) ≡ false =
     grind (arith, ints, c.is_before.ensures, c.if-not-is_before.true) in
-    nothing_here q x (x +ℤ pos 1) _ _ _ _ (place_of c.in-Some.top.now.greatest) x _ _
-    (at_point x) p.branch p.entries n refl
+    nothing_here q x (x +ℤ pos 1) (place_of c.in-Some.top.now.greatest) _ _
+    (at_point x) (p.branch.greatest_is ∙ ap greatest_end (sym p.entries)) n
 
-pub returns-then-is_before : goal.returns-then-is_before
-returns-then-is_before g t c =
+pub returns-then-not-goes_on : goal.returns-then-not-goes_on
+returns-then-not-goes_on g t c =
     let p = c.in-Some.ensures.some in
     let x = place_of c.args.place in
     let q = λ (e : Entry). holds e.period x in
-    let b = sym c.is_before-2.ensures ∙ c.if-is_before.true in
-    left_alone q x (x +ℤ pos 1) _ _ _ _ _ _ _ _ (at_point x) p.branch p.entries
-    (grind (arith, ints, b, c.start.ensures)) c.in_ok-stab.ensures
+    left_alone q x (x +ℤ pos 1) _ _ _ _ _ _ _ (at_point x) p.entries p.branch.in_order
+    (on_false _ c.if-not-goes_on.true c.in_ok-goes_on.ensures.late) c.in_ok-stab.ensures
+    c.in_ok-goes_on.ensures.found
 
 pub returns : goal.returns
 returns g t c =
@@ -32,6 +33,5 @@ returns g t c =
     let x = place_of c.args.place in
     let q = λ (e : Entry). holds e.period x in
     on_ok c.stab-2.result
-    (λ h. all_parts q c.holds.result c.in-Some.top.now.left c.in-Some.top.now.right _ _ _ _ _ _ p.entries
-    c.holds.ensures c.in_ok-stab.ensures c.in_ok-push_if.ensures.ok h)
+    (λ h. all_parts q _ _ _ _ _ _ _ _ p.entries c.in_ok-stab.ensures c.in_ok-goes_on.ensures.found h)
     c.stab-2.ensures

@@ -1,0 +1,44 @@
+use Rattle.std.specs.Prelude.{◌≡◌, ◌-◌, ◌<◌, List, length}
+use Rattle.std.specs.declared.cmp.Ordering.TheVariants.{Less, Equal, Greater}
+use Rattle.std.proofs.Common.{arith, ap, sym, subst, ◌∙◌}
+use Rattle.std.proofs.lemmas.List.{length-map}
+use Rattle.tql_index.specs.Entry.{Entry}
+use Rattle.tql_index.specs.Slots.{entry_of, entries_in}
+use Rattle.tql_index.specs.Tree.{IsSide}
+use Rattle.tql_index.proofs.Runs.{side_less, side_greater, side_within}
+use Rattle.tql_index.proofs.run.Run.side.Goals as goal
+
+pub returns-then-is_lt : goal.returns-then-is_lt
+returns-then-is_lt g c =
+    let ss = c.self.inside.slots.items in
+    let e = entry_of c.args.slot in
+    let v : entries_in ss ≡ c.args.self.now = c.self.view_is in
+    let some : 0 < length ss = omega (arith, c.requires, ap length v, length-map ss entry_of) in
+    subst (λ (es : List Entry). IsSide Less e es) v
+    (side_less e ss c.index.result.now c.compare.result c.self.invariant.in_order c.index.ensures some
+    c.compare.ensures (sym c.is_lt.ensures ∙ c.if-is_lt.true))
+
+pub returns-then-is_lt-2 : goal.returns-then-is_lt-2
+returns-then-is_lt-2 g c =
+    let ss = c.self.inside.slots.items in
+    let e = entry_of c.args.slot in
+    let v : entries_in ss ≡ c.args.self.now = c.self.view_is in
+    let some : 0 < length ss = omega (arith, c.requires, ap length v, length-map ss entry_of) in
+    subst (λ (es : List Entry). IsSide Greater e es) v
+    (side_greater e ss c.index-else-is_lt.result.now (c.len.result - 1) c.compare-else-is_lt.result
+    c.self.invariant.in_order c.index-else-is_lt.ensures
+    (omega (arith, c.len.ensures, c.self.inside.slots.ok.0, some)) c.compare-else-is_lt.ensures
+    (sym c.is_lt-else-is_lt.ensures ∙ c.if-is_lt-2.true))
+
+pub returns-else-is_lt-2 : goal.returns-else-is_lt-2
+returns-else-is_lt-2 g c =
+    let ss = c.self.inside.slots.items in
+    let e = entry_of c.args.slot in
+    let v : entries_in ss ≡ c.args.self.now = c.self.view_is in
+    let some : 0 < length ss = omega (arith, c.requires, ap length v, length-map ss entry_of) in
+    subst (λ (es : List Entry). IsSide Equal e es) v
+    (side_within e ss c.index.result.now c.index-else-is_lt.result.now (c.len.result - 1) c.compare.result
+    c.compare-else-is_lt.result c.index.ensures c.index-else-is_lt.ensures
+    (omega (arith, c.len.ensures, c.self.inside.slots.ok.0, some)) c.compare.ensures
+    (sym c.is_lt.ensures ∙ c.if-is_lt.false) c.compare-else-is_lt.ensures
+    (sym c.is_lt-else-is_lt.ensures ∙ c.if-is_lt-2.false))

@@ -1,0 +1,284 @@
+//! Runs of entries in order, of which each branch of a tree keeps one. The model of a run is the list of its entries.
+ghost use Rattle.std.specs.Prelude.{◌≡◌, ◌+◌, ◌+ℤ◌, ◌<◌, ◌≤◌, ◌==◌, true, pos, [], ◌∷◌, ◌++◌, length};
+ghost use Rattle.std.specs.Prelude.{OnOk, OnErr, IfOk};
+ghost use Rattle.std.specs.Bool.{OnFalse};
+ghost use Rattle.std.specs.List.{insert};
+ghost use Rattle.tql_spec.specs.Bag.{SameBag};
+ghost use Rattle.tql_index.specs.Entry.{ids_at, ids_sharing, Removes};
+ghost use Rattle.tql_index.specs.Line.{place_of};
+ghost use Rattle.tql_index.specs.Slots.{entry_of, entries_in};
+ghost use Rattle.tql_index.specs.Spans.{points_between};
+ghost use Rattle.tql_index.specs.Tree.{greatest_end, IsInOrder, IsPlace, IsSide, StartsLate, WasGreatest};
+
+use crate::line::Place;
+use crate::search::push_if;
+use crate::slot::Slot;
+use std::alloc::{AllocError, Allocator};
+use std::cmp::Ordering;
+use std::marker::Model;
+use tql_memory::Memory;
+
+// The number of entries of a run that is split before another is added. While it is split it has one more.
+const FULL: usize = 31;
+
+// Returns the number of entries that are before another one.
+fn place_in(slots: &[Slot], slot: Slot) -> usize
+    requires { IsInOrder (entries_in slots.now) }
+    ensures { IsPlace (entry_of slot) (entries_in slots.now) result }
+{
+    slots.partition_point(|each| each.compare(slot).is_lt())
+}
+
+// Returns the greatest end of the entries, or the first place of the line if there are none.
+fn last_end(slots: &[Slot]) -> Place
+    ensures { place_of result ≡ greatest_end (entries_in slots.now) }
+{
+    let mut end = Place::first();
+    for slot in slots {
+        end = end.later(slot.span.end());
+    }
+    end
+}
+
+// Returns the greatest end after the removal of an entry that ends at `removed`. It was `end`, which is computed again
+// only if the entry may have been the last to end.
+fn end_without(slots: &[Slot], removed: Place, end: Place) -> Place
+    requires { WasGreatest true (place_of removed) (place_of end) (entries_in slots.now) }
+    ensures { place_of result ≡ greatest_end (entries_in slots.now) }
+{
+    if removed.is_before(end) {
+        end
+    } else {
+        last_end(slots)
+    }
+}
+
+// Inserts an entry in order. Returns its position.
+fn put_slot<A: Allocator>(slots: &mut Vec<Slot, A>, slot: Slot) -> Result<usize, AllocError>
+    requires { IsInOrder (entries_in slots.old.items) }
+    ensures place { IfOk result (λ k. IsPlace (entry_of slot) (entries_in slots.old.items) k) }
+    ensures put { IfOk result (λ k. slots.new.items ≡ insert slots.old.items k slot) }
+    ensures unchanged { OnErr result (slots.new.items ≡ slots.old.items) }
+{
+    let place = place_in(slots, slot);
+    slots.insert(place, slot)?;
+    Ok(place)
+}
+
+// Moves the upper half of the entries to another list, which is empty and gets room for a full run.
+fn halve<A: Allocator>(slots: &mut Vec<Slot, A>, upper: &mut Vec<Slot, A>) -> Result<(), AllocError>
+    requires few { length slots.old.items ≤ 33 }
+    requires some { 2 ≤ length slots.old.items }
+    requires empty { upper.old.items ≡ [] }
+    ensures halved { OnOk result (slots.old.items ≡ slots.new.items ++ upper.new.items) }
+    ensures lower { OnOk result ((0 < length slots.new.items) × (length slots.new.items ≤ 32)) }
+    ensures upper { OnOk result ((0 < length upper.new.items) × (length upper.new.items ≤ 32)) }
+    ensures unchanged { OnErr result ((slots.new.items ≡ slots.old.items) × (upper.new.items ≡ [])) }
+{
+    let half = slots.len() / 2;
+    upper.reserve(FULL + 1)?;
+    upper.extend_from_slice(&slots[half..])?;
+    slots.truncate(half);
+    Ok(())
+}
+
+#[derive(Drop)]
+pub struct Run<A: Allocator> {
+    slots: Vec<Slot, A>,
+    // The greatest end of the entries. A search passes by a run that ends too early without a look at its entries.
+    end: Place,
+}
+
+impl<A: Allocator> Model for Run<A> {
+    ghost use Rattle.std.specs.Prelude.{List};
+    ghost use Rattle.tql_index.specs.Entry.{Entry};
+    ghost use Rattle.tql_index.specs.Line.{place_of};
+    ghost use Rattle.tql_index.specs.Slots.{entries_in};
+    ghost use Rattle.tql_index.specs.Tree.{IsRun};
+
+    ghost Value = { List Entry };
+
+    ghost view = { λ r. entries_in r.slots.items };
+
+    ghost invariant = { λ r. IsRun (entries_in r.slots.items) (place_of r.end) };
+}
+
+impl<A: Allocator> Run<A> {
+    // Creates a run without entries, which takes no memory.
+    pub fn new(memory: A) -> Run<A>
+        ensures { result ≡ [] }
+    {
+        Run {
+            slots: Vec::new(memory),
+            end: Place::first(),
+        }
+    }
+
+    // Creates a run of one entry, with room for a full run.
+    pub fn of(memory: A, slot: Slot) -> Result<Run<A>, AllocError>
+        ensures { IfOk result (λ run. run ≡ entry_of slot ∷ []) }
+    {
+        let mut slots = Vec::with_capacity(memory, FULL + 1)?;
+        slots.push(slot)?;
+        Ok(Run {
+            slots,
+            end: slot.span.end(),
+        })
+    }
+
+    // Whether there are no entries.
+    pub fn is_empty(&self) -> bool
+        ensures { result ≡ (length self.now == 0) }
+    {
+        self.slots.is_empty()
+    }
+
+    // Whether the run is split before another entry is added.
+    pub fn is_full(&self) -> bool
+        ensures { OnFalse result (length self.now < 32) }
+    {
+        self.slots.len() >= FULL
+    }
+
+    // States what is known of each run. Does nothing.
+    pub fn know(&self)
+        ensures in_order { IsInOrder self.now }
+        ensures few { length self.now ≤ 32 }
+    {
+        let _slots = &self.slots;
+    }
+
+    // Returns the greatest end of the entries, or the first place of the line if there are none.
+    pub fn end(&self) -> Place
+        ensures { place_of result ≡ greatest_end self.now }
+    {
+        self.end
+    }
+
+    // Returns on which side of the run an entry lies, or `Equal` if it lies within.
+    pub fn side(&self, slot: Slot) -> Ordering
+        requires { 0 < length self.now }
+        ensures { IsSide result (entry_of slot) self.now }
+    {
+        if slot.compare(self.slots[0]).is_lt() {
+            Ordering::Less
+        } else if self.slots[self.slots.len() - 1].compare(slot).is_lt() {
+            Ordering::Greater
+        } else {
+            Ordering::Equal
+        }
+    }
+
+    // Adds an entry.
+    pub fn put(&mut self, slot: Slot) -> Result<(), AllocError>
+        requires { length self.old < 32 }
+        ensures added { OnOk result (SameBag self.new (entry_of slot ∷ self.old)) }
+        ensures unchanged { OnErr result (self.new ≡ self.old) }
+    {
+        put_slot(&mut self.slots, slot)?;
+        self.end = self.end.later(slot.span.end());
+        Ok(())
+    }
+
+    // Adds an entry, and moves the upper half of the entries to another run, which is empty.
+    pub fn put_halved(&mut self, slot: Slot, upper: &mut Run<A>) -> Result<(), AllocError>
+        requires some { 0 < length self.old }
+        requires empty { upper.old ≡ [] }
+        ensures added { OnOk result (SameBag (self.new ++ upper.new) (entry_of slot ∷ self.old)) }
+        ensures in_order { OnOk result (IsInOrder (self.new ++ upper.new)) }
+        ensures halves { OnOk result ((0 < length self.new) × (0 < length upper.new)) }
+        ensures unchanged { OnErr result (self.new ≡ self.old) }
+    {
+        let place = put_slot(&mut self.slots, slot)?;
+        if let Err(refused) = halve(&mut self.slots, &mut upper.slots) {
+            self.slots.remove(place);
+            return Err(refused);
+        }
+        self.end = last_end(&self.slots);
+        upper.end = last_end(&upper.slots);
+        Ok(())
+    }
+
+    // Removes one entry that equals another one, if there is one. Returns whether there was.
+    pub fn remove(&mut self, slot: Slot) -> bool
+        ensures { Removes result (entry_of slot) self.old self.new }
+    {
+        let place = place_in(&self.slots, slot);
+        if place == self.slots.len() || !self.slots[place].compare(slot).is_eq() {
+            return false;
+        }
+        self.slots.remove(place);
+        self.end = end_without(&self.slots, slot.span.end(), self.end);
+        true
+    }
+
+    // Appends the numbers of the entries that contain the point. Returns false if some entry starts after the point.
+    pub fn find_at(&self, place: Place, found: &mut Vec<usize, Memory>) -> Result<bool, AllocError>
+        ensures found { OnOk result (found.new.items ≡ found.old.items ++ ids_at (place_of place) self.now) }
+        ensures late { IfOk result (λ on. OnFalse on (StartsLate (place_of place +ℤ pos 1) self.now)) }
+    {
+        if !place.is_before(self.end) {
+            return Ok(true);
+        }
+        slots_at(&self.slots, place, found)
+    }
+
+    // Appends the numbers of the entries that share a point with the line from one place up to another. Returns false
+    // if some entry starts at the second place or after it.
+    pub fn find_sharing(
+        &self,
+        from: Place,
+        to: Place,
+        found: &mut Vec<usize, Memory>,
+    ) -> Result<bool, AllocError>
+        ensures found { OnOk result
+            (found.new.items ≡ found.old.items ++ ids_sharing (points_between from to) self.now) }
+        ensures late { IfOk result (λ on. OnFalse on (StartsLate (place_of to) self.now)) }
+    {
+        if !from.is_before(self.end) {
+            return Ok(true);
+        }
+        slots_sharing(&self.slots, from, to, found)
+    }
+}
+
+// As `Run::find_at`.
+fn slots_at(
+    slots: &[Slot],
+    place: Place,
+    found: &mut Vec<usize, Memory>,
+) -> Result<bool, AllocError>
+    requires { IsInOrder (entries_in slots.now) }
+    ensures found { OnOk result
+        (found.new.items ≡ found.old.items ++ ids_at (place_of place) (entries_in slots.now)) }
+    ensures late { IfOk result (λ on. OnFalse on (StartsLate (place_of place +ℤ pos 1) (entries_in slots.now))) }
+{
+    for slot in slots {
+        if place.is_before(slot.span.start()) {
+            return Ok(false);
+        }
+        push_if(found, slot.span.holds(place), slot.id)?;
+    }
+    Ok(true)
+}
+
+// As `Run::find_sharing`.
+fn slots_sharing(
+    slots: &[Slot],
+    from: Place,
+    to: Place,
+    found: &mut Vec<usize, Memory>,
+) -> Result<bool, AllocError>
+    requires { IsInOrder (entries_in slots.now) }
+    ensures found { OnOk result
+        (found.new.items ≡ found.old.items ++ ids_sharing (points_between from to) (entries_in slots.now)) }
+    ensures late { IfOk result (λ on. OnFalse on (StartsLate (place_of to) (entries_in slots.now))) }
+{
+    for slot in slots {
+        if !slot.span.start().is_before(to) {
+            return Ok(false);
+        }
+        push_if(found, slot.span.shares(from, to), slot.id)?;
+    }
+    Ok(true)
+}
