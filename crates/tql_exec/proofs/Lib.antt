@@ -6,3 +6,4 @@ pub mod ByKey
 pub mod ByPeriod
 pub mod OverSinks
 pub mod Crossed
+pub mod Counted

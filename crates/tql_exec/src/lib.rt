@@ -1,7 +1,7 @@
 //! Runs query plans over a snapshot of the store.
 #![tactic(auto)]
 
-mod headings;
+mod counting;
 mod joining;
 mod levels;
 mod multiplying;
