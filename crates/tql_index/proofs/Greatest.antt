@@ -91,7 +91,3 @@ first_more m l k r g n e h f =
     let c = greatest_end-append m l in
     let d = greatest_end-append l r in
     rw e (omega (arith, ints, clamps, h, b, c, d, f))
-
--- the greatest end stays if the entry that was removed ends before
-pub still_greatest : (n g m : ℤ) → g ≡ int_max n m → int_lt n g ≡ true → g ≡ m
-still_greatest n g m h k = grind (arith, ints, clamps, h, k)

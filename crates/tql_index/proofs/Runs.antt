@@ -1,6 +1,6 @@
 -- Entries of a run: their positions, and what is added to them, removed from them and found among them.
 use Rattle.std.specs.Prelude.{◌≡◌, refl, ℕ, zero, suc, ◌+◌, ◌<◌, ◌≤◌, Bool, true, false, List, [], ◌∷◌, ◌++◌, length}
-use Rattle.std.specs.Prelude.{take, drop, count_by, Contains, not, int_lt, ℤ, ◌≤ℤ◌, ◌+ℤ◌, pos}
+use Rattle.std.specs.Prelude.{take, drop, count_by, Contains, not, int_lt, ℤ, ◌≤ℤ◌}
 use Rattle.std.specs.List.{insert, remove, sum_by}
 use Rattle.std.specs.List.Sorted.{IsPartitionedBy, IsPartitionPoint}
 use Rattle.std.specs.declared.cmp.Ordering.{Ordering}
@@ -316,12 +316,9 @@ searched_late q high ss n s old found f h g r l b =
     ∙ ap (λ z. ids_of q (take n es) ++ z) none ∙ append-nil (ids_of q (take n es)) in
     g.is ∙ ap (λ z. old ++ ids_of q z) (sym (take-map entry_of n ss)) ∙ ap (λ z. old ++ z) (sym all)
 
--- a start that is not before the place, and one after the place
+-- a start that is not before the place
 pub late_start : (a h s : ℤ) → int_lt a h ≡ false → a ≡ s → h ≤ℤ s
 late_start a h s k f = omega (arith, ints, k, f)
-
-pub later_start : (p a s : ℤ) → int_lt p a ≡ true → a ≡ s → (p +ℤ pos 1) ≤ℤ s
-later_start p a s k f = grind (arith, ints, k, f)
 
 pub is_late : (high : ℤ) (ss : List Slot) (n : ℕ) (s : Slot) → s ≡ get_or ss n s → n < length ss
     → high ≤ℤ (entry_of s).period.start → StartsLate high (entries_in ss)

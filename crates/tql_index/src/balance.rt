@@ -11,7 +11,7 @@ use std::alloc::Allocator;
 use std::mem;
 
 // Builds a balanced tree from a branch whose sides were changed in place. Its greatest end must be up to date.
-fn settle<A: Allocator>(top: Box<Branch<A>, A>) -> Tree<A>
+fn settle<A: Allocator>(mut top: Box<Branch<A>, A>) -> Tree<A>
     requires some { 0 < length top.value.run }
     requires in_order { IsInOrder (entries_below top.value) }
     requires near { DifferByAtMost 2 top.value.left.height top.value.right.height }
@@ -20,24 +20,10 @@ fn settle<A: Allocator>(top: Box<Branch<A>, A>) -> Tree<A>
     ensures entries { result.entries ≡ entries_below top.value }
     ensures height { IsHeightAfterBalance top.value.left.height top.value.right.height result.height }
 {
-    let (left, right) = (top.left.height(), top.right.height());
-    if left <= right + 1 && right <= left + 1 {
-        hold(top, left.max(right) + 1)
-    } else {
-        turn(top)
+    let (left_height, right_height) = (top.left.height(), top.right.height());
+    if left_height <= right_height + 1 && right_height <= left_height + 1 {
+        return hold(top, left_height.max(right_height) + 1);
     }
-}
-
-// As `settle`, from the separate sides. It is called seldom and is a separate function to keep the others short.
-#[inline(never)]
-fn turn<A: Allocator>(mut top: Box<Branch<A>, A>) -> Tree<A>
-    requires some { 0 < length top.value.run }
-    requires in_order { IsInOrder (entries_below top.value) }
-    requires near { DifferByAtMost 2 top.value.left.height top.value.right.height }
-    requires room { max top.value.left.height top.value.right.height ≤ 200 }
-    ensures entries { result.entries ≡ entries_below top.value }
-    ensures height { IsHeightAfterBalance top.value.left.height top.value.right.height result.height }
-{
     let left = mem::replace(&mut top.left, Tree::new());
     let right = mem::replace(&mut top.right, Tree::new());
     balance(left, top, right)
@@ -79,7 +65,8 @@ pub fn settle_less<A: Allocator>(mut top: Box<Branch<A>, A>, found: bool, end: P
     settle(top)
 }
 
-// Builds a balanced tree from two sides and the run between them.
+// Builds a balanced tree from two sides and the run between them. `settle` seldom calls it, and is to stay short.
+#[inline(never)]
 pub fn balance<A: Allocator>(left: Tree<A>, top: Box<Branch<A>, A>, right: Tree<A>) -> Tree<A>
     requires some { 0 < length top.value.run }
     requires in_order { IsInOrder (left.entries ++ (top.value.run ++ right.entries)) }

@@ -18,16 +18,6 @@ use std::alloc::{AllocError, Allocator};
 use std::cmp::Ordering;
 use std::mem;
 
-// Returns the tree of one entry.
-#[inline(never)]
-fn alone<A: Allocator + Copy>(memory: A, slot: Slot) -> Result<Tree<A>, AllocError>
-    ensures { IfOk result (λ tree. tree ≡ record { entries = entry_of slot ∷ []; height = 1 }) }
-{
-    let run = Run::of(memory, slot)?;
-    let top = Branch::new(memory, run)?;
-    Ok(link(Tree::new(), top, Tree::new()))
-}
-
 // Inserts a run before all entries. It comes as a branch with its memory, so nothing is allocated.
 fn insert_least<A: Allocator>(tree: &mut Tree<A>, least: Box<Branch<A>, A>)
     requires some { 0 < length least.value.run }
@@ -101,7 +91,9 @@ pub fn insert<A: Allocator + Copy>(
     ensures at_most_one_higher { tree.new.height ≤ tree.old.height + 1 }
 {
     let Some(mut top) = tree.take() else {
-        *tree = alone(memory, slot)?;
+        let run = Run::of(memory, slot)?;
+        let first = Branch::new(memory, run)?;
+        *tree = link(Tree::new(), first, Tree::new());
         return Ok(());
     };
     match room_for(&top, slot) {

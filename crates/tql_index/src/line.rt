@@ -1,5 +1,5 @@
 //! The places of the points of all groups on one line.
-ghost use Rattle.std.specs.Prelude.{◌≡◌, int_lt};
+ghost use Rattle.std.specs.Prelude.{◌≡◌, ◌+ℤ◌, pos, int_lt};
 ghost use Rattle.std.specs.Int.{int_max};
 ghost use Rattle.tql_index.specs.Line.{place_of, first_place};
 
@@ -11,11 +11,21 @@ pub struct Place {
 }
 
 impl Place {
-    // Returns the place of a point in group 0.
-    pub fn of(point: i64) -> Place
-        ensures { place_of result ≡ point }
+    // Returns the place after a point of group 0.
+    pub fn after(point: i64) -> Place
+        ensures { place_of result ≡ point +ℤ pos 1 }
     {
-        Place { group: 0, point }
+        if point == i64::MAX {
+            Place {
+                group: 1,
+                point: i64::MIN,
+            }
+        } else {
+            Place {
+                group: 0,
+                point: point + 1,
+            }
+        }
     }
 
     // Returns the first place of the line.

@@ -114,11 +114,7 @@ impl IntervalIndex for ListIndex {
     }
 
     fn stab(&self, point: i64) -> Result<Vec<Id, Memory>, AllocError> {
-        let mut found = Vec::new(self.memory);
-        for held in &self.held {
-            push_if(&mut found, held.span.holds(Place::of(point)), held.id)?;
-        }
-        Ok(found)
+        self.between(Place { group: 0, point }, Place::after(point))
     }
 
     fn overlapping(&self, period: Period) -> Result<Vec<Id, Memory>, AllocError> {

@@ -40,31 +40,6 @@ fn last_end(slots: &[Slot]) -> Place
     end
 }
 
-// Returns the greatest end after the removal of an entry that ends at `removed`. It was `end`, which is computed again
-// only if the entry may have been the last to end.
-fn end_without(slots: &[Slot], removed: Place, end: Place) -> Place
-    requires { WasGreatest true (place_of removed) (place_of end) (entries_in slots.now) }
-    ensures { place_of result ≡ greatest_end (entries_in slots.now) }
-{
-    if removed.is_before(end) {
-        end
-    } else {
-        last_end(slots)
-    }
-}
-
-// Inserts an entry in order. Returns its position.
-fn put_slot<A: Allocator>(slots: &mut Vec<Slot, A>, slot: Slot) -> Result<usize, AllocError>
-    requires { IsInOrder (entries_in slots.old.items) }
-    ensures place { IfOk result (λ k. IsPlace (entry_of slot) (entries_in slots.old.items) k) }
-    ensures put { IfOk result (λ k. slots.new.items ≡ insert slots.old.items k slot) }
-    ensures unchanged { OnErr result (slots.new.items ≡ slots.old.items) }
-{
-    let place = place_in(slots, slot);
-    slots.insert(place, slot)?;
-    Ok(place)
-}
-
 // Moves the upper half of the entries to another list, which is empty and gets room for a full run.
 fn halve<A: Allocator>(slots: &mut Vec<Slot, A>, upper: &mut Vec<Slot, A>) -> Result<(), AllocError>
     requires few { length slots.old.items ≤ 33 }
@@ -175,7 +150,8 @@ impl<A: Allocator> Run<A> {
         ensures added { OnOk result (SameBag self.new (entry_of slot ∷ self.old)) }
         ensures unchanged { OnErr result (self.new ≡ self.old) }
     {
-        put_slot(&mut self.slots, slot)?;
+        let place = place_in(&self.slots, slot);
+        self.slots.insert(place, slot)?;
         self.end = self.end.later(slot.span.end());
         Ok(())
     }
@@ -189,7 +165,8 @@ impl<A: Allocator> Run<A> {
         ensures halves { OnOk result ((0 < length self.new) × (0 < length upper.new)) }
         ensures unchanged { OnErr result (self.new ≡ self.old) }
     {
-        let place = put_slot(&mut self.slots, slot)?;
+        let place = place_in(&self.slots, slot);
+        self.slots.insert(place, slot)?;
         if let Err(refused) = halve(&mut self.slots, &mut upper.slots) {
             self.slots.remove(place);
             return Err(refused);
@@ -208,24 +185,13 @@ impl<A: Allocator> Run<A> {
             return false;
         }
         self.slots.remove(place);
-        self.end = end_without(&self.slots, slot.span.end(), self.end);
+        self.end = last_end(&self.slots);
         true
-    }
-
-    // Appends the numbers of the entries that contain the point. Returns false if some entry starts after the point.
-    pub fn find_at(&self, place: Place, found: &mut Vec<usize, Memory>) -> Result<bool, AllocError>
-        ensures found { OnOk result (found.new.items ≡ found.old.items ++ ids_at (place_of place) self.now) }
-        ensures late { IfOk result (λ on. OnFalse on (StartsLate (place_of place +ℤ pos 1) self.now)) }
-    {
-        if !place.is_before(self.end) {
-            return Ok(true);
-        }
-        slots_at(&self.slots, place, found)
     }
 
     // Appends the numbers of the entries that share a point with the line from one place up to another. Returns false
     // if some entry starts at the second place or after it.
-    pub fn find_sharing(
+    pub fn find(
         &self,
         from: Place,
         to: Place,
@@ -238,47 +204,12 @@ impl<A: Allocator> Run<A> {
         if !from.is_before(self.end) {
             return Ok(true);
         }
-        slots_sharing(&self.slots, from, to, found)
-    }
-}
-
-// As `Run::find_at`.
-fn slots_at(
-    slots: &[Slot],
-    place: Place,
-    found: &mut Vec<usize, Memory>,
-) -> Result<bool, AllocError>
-    requires { IsInOrder (entries_in slots.now) }
-    ensures found { OnOk result
-        (found.new.items ≡ found.old.items ++ ids_at (place_of place) (entries_in slots.now)) }
-    ensures late { IfOk result (λ on. OnFalse on (StartsLate (place_of place +ℤ pos 1) (entries_in slots.now))) }
-{
-    for slot in slots {
-        if place.is_before(slot.span.start()) {
-            return Ok(false);
+        for slot in &self.slots {
+            if !slot.span.start().is_before(to) {
+                return Ok(false);
+            }
+            push_if(found, slot.span.shares(from, to), slot.id)?;
         }
-        push_if(found, slot.span.holds(place), slot.id)?;
+        Ok(true)
     }
-    Ok(true)
-}
-
-// As `Run::find_sharing`.
-fn slots_sharing(
-    slots: &[Slot],
-    from: Place,
-    to: Place,
-    found: &mut Vec<usize, Memory>,
-) -> Result<bool, AllocError>
-    requires { IsInOrder (entries_in slots.now) }
-    ensures found { OnOk result
-        (found.new.items ≡ found.old.items ++ ids_sharing (points_between from to) (entries_in slots.now)) }
-    ensures late { IfOk result (λ on. OnFalse on (StartsLate (place_of to) (entries_in slots.now))) }
-{
-    for slot in slots {
-        if !slot.span.start().is_before(to) {
-            return Ok(false);
-        }
-        push_if(found, slot.span.shares(from, to), slot.id)?;
-    }
-    Ok(true)
 }

@@ -1,7 +1,6 @@
-//! Searches a tree for the entries that contain a point or share a point with a period.
+//! Searches a tree for the entries that share a point with a period.
 ghost use Rattle.std.specs.Prelude.{◌≡◌, ◌++◌, OnOk, OnErr};
-ghost use Rattle.tql_index.specs.Entry.{id_if, ids_at, ids_sharing};
-ghost use Rattle.tql_index.specs.Line.{place_of};
+ghost use Rattle.tql_index.specs.Entry.{id_if, ids_sharing};
 ghost use Rattle.tql_index.specs.Spans.{points_between};
 
 use crate::line::Place;
@@ -20,31 +19,8 @@ pub fn push_if(found: &mut Vec<usize, Memory>, wanted: bool, id: usize) -> Resul
     Ok(())
 }
 
-// Appends the numbers of the entries that contain the point. Skips each subtree that ends too early, and each right
-// side that starts too late.
-pub fn stab<A: Allocator>(
-    tree: &Tree<A>,
-    place: Place,
-    found: &mut Vec<usize, Memory>,
-) -> Result<(), AllocError>
-    ensures { OnOk result (found.new.items ≡ found.old.items ++ ids_at (place_of place) tree.now.entries) }
-{
-    let Some(top) = tree.top() else {
-        return Ok(());
-    };
-    if !place.is_before(top.greatest) {
-        return Ok(());
-    }
-    stab(&top.left, place, found)?;
-    let goes_on = top.run.find_at(place, found)?;
-    if !goes_on {
-        return Ok(());
-    }
-    stab(&top.right, place, found)
-}
-
-// Appends the numbers of the entries that share a point with the line from one place up to another. Skips subtrees as
-// `stab` does.
+// Appends the numbers of the entries that share a point with the line from one place up to another. Skips each
+// subtree that ends too early, and each right side that starts too late.
 pub fn overlapping<A: Allocator>(
     tree: &Tree<A>,
     from: Place,
@@ -61,7 +37,7 @@ pub fn overlapping<A: Allocator>(
         return Ok(());
     }
     overlapping(&top.left, from, to, found)?;
-    let goes_on = top.run.find_sharing(from, to, found)?;
+    let goes_on = top.run.find(from, to, found)?;
     if !goes_on {
         return Ok(());
     }

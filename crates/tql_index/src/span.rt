@@ -1,7 +1,7 @@
 //! Periods in groups. Periods of different groups share no point.
 ghost use Rattle.std.specs.Prelude.{◌≡◌};
 ghost use Rattle.std.specs.Ordering.{int_cmp, ordering_then};
-ghost use Rattle.tql_spec.specs.Period.{holds as held, share_a_point};
+ghost use Rattle.tql_spec.specs.Period.{share_a_point};
 ghost use Rattle.tql_period.specs.Points.{points_of};
 ghost use Rattle.tql_index.specs.Line.{place_of};
 ghost use Rattle.tql_index.specs.Spans.{span_of, in_group, all_of_group, points_between};
@@ -43,13 +43,6 @@ impl Span {
                 end: i64::MAX,
             },
         }
-    }
-
-    /// Whether the span contains the point.
-    pub(crate) fn holds(self, place: Place) -> bool
-        ensures { result ≡ held (span_of self) (place_of place) }
-    {
-        self.group == place.group && self.period.holds(place.point)
     }
 
     /// Whether the span shares a point with the line from one place up to another.

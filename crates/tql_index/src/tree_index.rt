@@ -8,7 +8,7 @@ ghost use Rattle.tql_index.specs.Tree.{IsShallow};
 use crate::edit::{insert, remove};
 use crate::index::{Id, IntervalIndex};
 use crate::line::Place;
-use crate::search::{overlapping, stab};
+use crate::search::overlapping;
 use crate::slot::Slot;
 use crate::span::Span;
 use crate::tree::Tree;
@@ -96,9 +96,7 @@ impl IntervalIndex for TreeIndex {
     }
 
     fn stab(&self, point: i64) -> Result<Vec<Id, Memory>, AllocError> {
-        let mut found = Vec::new(self.memory);
-        stab(&self.tree, Place::of(point), &mut found)?;
-        Ok(found)
+        self.between(Place { group: 0, point }, Place::after(point))
     }
 
     fn overlapping(&self, period: Period) -> Result<Vec<Id, Memory>, AllocError> {

@@ -1,15 +1,12 @@
-use Rattle.std.specs.Prelude.{◌≡◌, ◌∷◌, ◌<◌, List, length, true, Contains}
-use Rattle.std.specs.Int.{int_max}
+use Rattle.std.specs.Prelude.{◌≡◌, ◌∷◌, ◌<◌, List, length, Contains}
 use Rattle.std.proofs.Common.{arith, ap, refl, sym, subst, ◌∙◌}
 use Rattle.std.proofs.lemmas.List.{length-map}
 use Rattle.tql_spec.specs.Bag.{SameBag}
 use Rattle.tql_index.specs.Entry.{Entry}
-use Rattle.tql_index.specs.Line.{place_of}
 use Rattle.tql_index.specs.Slots.{entry_of, entries_in}
 use Rattle.tql_index.specs.Tree.{greatest_end, IsPlace}
 use Rattle.tql_index.specs.declared.slot.Slot.{Slot}
 use Rattle.tql_index.proofs.Bags.{length_of_one_more}
-use Rattle.tql_index.proofs.Greatest.{greatest_before}
 use Rattle.tql_index.proofs.Runs.{is_found, not_found, not_placed, take_out_bag, take_out_order}
 use Rattle.tql_index.proofs.run.Run.remove.Goals.{then-place-len-via-then-place-len}
 use Rattle.tql_index.proofs.run.Run.remove.Goals.{then-place-len-via-else-place-len+then-not-is_eq}
@@ -40,29 +37,6 @@ returns-then-place-len g c =
       )
     ]
 
-pub end_without-self-inside-requires : goal.end_without-self-inside-requires
-end_without-self-inside-requires g c =
-    let ss = c.self.inside.slots.items in
-    let ts = c.remove.new.self.items in
-    let k = c.place_in-place.result in
-    let e = entry_of c.args.slot in
-    let v : entries_in ss ≡ c.args.self.now = c.self.view_is in
-    let p : IsPlace e (entries_in ss) k =
-    subst (λ (z : List Slot). IsPlace e (entries_in z) k) c.deref.ensures.value c.place_in-place.ensures in
-    let w = p.within in
-    let l : k < length ss = first_of (
-      omega (arith, w, length-map ss entry_of, c.if-place-len.false, c.len.ensures, c.self.inside.slots.ok.0),
-      grind (arith, w, length-map ss entry_of, c.if-place-len.false, c.len.ensures, c.self.inside.slots.ok.0),
-    ) in
-    let f = is_found ss k c.index.result.now e c.compare.result c.index.ensures l c.compare.ensures
-    (sym c.is_eq.ensures ∙ c.if-not-is_eq.false) in
-    let s = take_out_bag ss ts k e c.remove.ensures.items l f in
-    subst (λ (z : List Slot). place_of c.self.inside.end ≡ int_max (place_of c.end.result)
-    (greatest_end (entries_in z)))
-    (sym c.deref-2.ensures.value)
-    (greatest_before true e (entries_in ss) (entries_in ts) (place_of c.self.inside.end) (place_of c.end.result) s
-    c.self.invariant.greatest_is c.end.ensures)
-
 pub invariant_of-self : goal.invariant_of-self
 invariant_of-self g c =
     let ss = c.self.inside.slots.items in
@@ -83,7 +57,7 @@ invariant_of-self g c =
     record {
       in_order = take_out_order ss ts k e c.remove.ensures.items l c.self.invariant.in_order;
       few = omega (arith, length_of_one_more e (entries_in ss) (entries_in ts) s, c.self.invariant.few);
-      greatest_is = c.end_without-self-inside.ensures
+      greatest_is = c.last_end-self-inside.ensures
           ∙ ap (λ (z : List Slot). greatest_end (entries_in z)) c.deref-2.ensures.value;
     }
 
