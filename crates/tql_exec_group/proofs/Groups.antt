@@ -1,12 +1,15 @@
 -- One more row in the groups.
 use Rattle.std.specs.Prelude.{◌≡◌, refl, ℕ, zero, suc, ◌+◌, ◌<◌, ◌≤◌, Bool, true, false, ◌||◌, not, List, [], ◌∷◌}
 use Rattle.std.specs.Prelude.{◌++◌, map}
-use Rattle.std.specs.Prelude.{filter, length, Option, Some, Vec, slice_get, slice_index_or, slice_set}
+use Rattle.std.specs.Prelude.{filter, length, nat_eq, Option, Some, slice_get, slice_index_or, slice_set}
 use Rattle.std.specs.Prelude.{MatchResult, Result, Ok, Err}
 use Rattle.std.specs.List.{AllZip, list_any}
-use Rattle.std.proofs.Common.{sym, ap, subst, ◌∙◌, cond, arith, drop}
-use Rattle.std.proofs.lemmas.List.{append-nil, drop_all, drop_more, get_or-map, length-append, length-map, map-append}
+use Rattle.std.proofs.Common.{sym, ap, subst, ◌∙◌, cond, arith, drop, take}
+use Rattle.std.proofs.Math.Nat.{zero-mul}
+use Rattle.std.proofs.lemmas.Bool.{eqb-true}
+use Rattle.std.proofs.lemmas.List.{append-nil, drop_all, drop_more, get_or-map, length-map, map-append}
 use Rattle.std.proofs.lemmas.List.Elements.{filter-append}
+use Rattle.std.proofs.lemmas.Option.{slice_get-get_or}
 use Rattle.std.proofs.lemmas.Slice.Zip.{all_zipped_more, AllZip-long}
 use Rattle.tql_spec.specs.Datum.{Row, same_row}
 use Rattle.tql_spec.specs.Expression.{Cond, Expr}
@@ -19,13 +22,15 @@ use Rattle.tql_expr.proofs.Evaluations.{no_memory}
 use Rattle.tql_expr.specs.Evaluated.{Fails, behind}
 use Rattle.tql_expr.specs.declared.terms.Aggregate.{Aggregate}
 use Rattle.tql_expr.specs.declared.terms.Terms.{Terms}
-use Rattle.tql_exec_group.specs.Begun.{BeginsGroup, TakesAt}
-use Rattle.tql_exec_group.specs.Folded.{HaveFolded}
-use Rattle.tql_exec_group.specs.Grouped.{keys_of, scope_at, with_key, HasGrouped}
+use Rattle.tql_expr.specs.declared.terms.Terms.{Terms}
+use Rattle.tql_exec_group.specs.Begun.{Begins, Enters, IsPart, TakesAt}
+use Rattle.tql_exec_group.specs.Folded.{HasFolded, HaveFolded}
+use Rattle.tql_exec_group.specs.Grouped.{joined, kept_keys, keys_of, scope_at, with_key, AreGrouped, HasGrouped}
 use Rattle.tql_exec_numbered.specs.Numbered.{with_row}
 use Rattle.tql_exec_group.specs.declared.fold.Accumulator.{Accumulator}
 use Rattle.tql_exec_group.specs.declared.grouping.Groups.{Groups}
 use Rattle.tql_exec_numbered.proofs.Known.{found_known, row_known, row_new}
+use Rattle.tql_exec_group.proofs.Parts.{inside, joined_more, long_before, parted, replaced, zip_get}
 use Rattle.tql_exec_group.proofs.Repeats.{distinct_with}
 
 -- ---- tests
@@ -36,9 +41,6 @@ or_parts true b e = absurd (cc)
 
 not_both : (b : Bool) → b ≡ true → b ≡ false → ⊥
 not_both b e f = cc
-
-inside : {X : Type 0} (x y : X) → ◌≡◌ {A = Option X} (Some x) (Some y) → x ≡ y
-inside x y e = cc
 
 apart_back : (x y : Row) → same_row x y ≡ false → same_row y x ≡ false
 apart_back x y e = by_bool (same_row y x)
@@ -167,7 +169,7 @@ module _ (columns : List ℕ) (rows : List Row) (r : Row) where
 
 -- ---- a number among keys
 
-number_below : (keys : List Row) (k : Row) (n : ℕ) → slice_get keys n ≡ Some k → n < length keys
+number_below : {X : Type 0} (keys : List X) (k : X) (n : ℕ) → slice_get keys n ≡ Some k → n < length keys
 number_below [] k zero e = absurd (cc)
 number_below [] k (suc n) e = absurd (cc)
 number_below (x ∷ keys) k zero e = omega arith
@@ -208,93 +210,161 @@ module _ {X : Type 0} (R R' : Row → X → Type 0) (k : Row)
 
   -- the accumulators of the group at a number take a row
   one_takes : (n : ℕ) (keys : List Row) (folds : List X) (g : X) → AllDiffer keys → slice_get keys n ≡ Some k
-      → ((d : X) → R k (slice_index_or folds n d) → R' k g) → AllZip R keys folds → AllZip R' keys (slice_set folds n g)
+      → R' k g → AllZip R keys folds → AllZip R' keys (slice_set folds n g)
   one_takes zero [] folds g a at next h = absurd (cc)
   one_takes (suc n) [] folds g a at next h = absurd (cc)
   one_takes zero (key ∷ keys) [] g a at next h = absurd h
   one_takes (suc n) (key ∷ keys) [] g a at next h = absurd h
   one_takes zero (key ∷ keys) (f ∷ fs) g a at next h =
-      let is : key ≡ k = inside key k at in (
-        subst (λ z. R' z g) (sym is) (next f (subst (λ z. R z f) is h.0)),
-        all_stay keys fs (subst (λ z. list_any (same_row z) keys ≡ false) is a.0) h.1,
-      )
+      let is : key ≡ k = inside key k at in
+      (subst (λ z. R' z g) (sym is) next, all_stay keys fs (subst (λ z. list_any (same_row z) keys ≡ false) is a.0) h.1)
   one_takes (suc n) (key ∷ keys) (f ∷ fs) g a at next h =
       (others_stay key f (member_apart key k keys n a.0 at) h.0, one_takes n keys fs g a.1 at next h.1)
 
-module _ {A : Type 0} (R : Row → Vec Accumulator A → Type 0) (aggregates : List Aggregate) (keys : List Row) (k : Row)
-    (n : ℕ) (folds more : List (Vec Accumulator A)) (begins : BeginsGroup aggregates n folds more)
-    (at : slice_get (with_row keys k) n ≡ Some k) (h : AllZip R keys folds) where
-  same_length : length folds ≡ length keys
-  same_length = AllZip-long R keys folds h
+-- accumulators of no rows, where the group is new
+entered : (R : Row → List Accumulator → Type 0) (columns : List ℕ) (aggregates : List Aggregate) (old new : Groups)
+    (r : Row) (n : ℕ) (keys : List Row) (parts : List (List Accumulator)) → Enters columns aggregates old new r n
+    → old.keys ≡ keys → old.folds.items ≡ joined parts → AllZip R keys parts
+    → (list_any (same_row (cells_at columns r)) keys ≡ false → (f : List Accumulator)
+    → ((t : Terms) → HaveFolded t aggregates f []) → R (cells_at columns r) f)
+    → (parts' : List (List Accumulator)) × (new.folds.items ≡ joined parts')
+    × AllZip R (with_row keys (cells_at columns r)) parts'
+entered R columns aggregates old new r n keys parts enters same flat h fresh =
+    let k : Row = cells_at columns r in
+    let is : new.keys ≡ with_row keys k = enters.keys ∙ ap (λ ks. with_row ks k) same in
+    let at : slice_get (with_row keys k) n ≡ Some k = ap (λ ks. slice_get ks n) (sym is) ∙ enters.number in
+    by_bool (list_any (same_row k) keys)
+    (λ known.
+    let below : n < length keys =
+    number_below keys k n (ap (λ ks. slice_get ks n) (sym (row_known keys k known)) ∙ at) in
+    let kept = enters.kept (λ e. absurd (omega (arith, e, below, ap length same))) in
+    (parts, kept ∙ flat, subst (λ ks. AllZip R ks parts) (sym (row_known keys k known)) h))
+    (λ new.
+    let next : n ≡ length keys =
+    number_behind keys k n new (ap (λ ks. slice_get ks n) (sym (row_new keys k new)) ∙ at) in
+    let begun = enters.begun (next ∙ sym (ap length same)) in (
+      parts ++ begun.0 ∷ [],
+      begun.1 ∙ ap (λ fs. fs ++ begun.0) flat ∙ sym (joined_more parts begun.0),
+      subst (λ ks. AllZip R ks (parts ++ begun.0 ∷ [])) (sym (row_new keys k new))
+          (all_zipped_more R keys parts k begun.0 h (fresh new begun.0 begun.2)),
+    ))
 
-  -- accumulators of no rows, where the group is new
-  all_begun : (list_any (same_row k) keys ≡ false → (f : Vec Accumulator A)
-      → ((t : Terms) → HaveFolded t aggregates f.items []) → R k f) → AllZip R (with_row keys k) more
-  all_begun fresh = by_bool (list_any (same_row k) keys)
-      (λ known.
-      let below : n < length keys = number_below keys k n (ap (λ ks. slice_get ks n) (sym (row_known keys k known)) ∙
-      at) in
-      let same : more ≡ folds = begins.kept (λ e. absurd (omega (arith, e, below, same_length))) in
-      subst (λ ks. AllZip R ks more) (sym (row_known keys k known)) (subst (AllZip R keys) (sym same) h))
-      (λ new.
-      let next : n ≡ length keys =
-      number_behind keys k n new (ap (λ ks. slice_get ks n) (sym (row_new keys k new)) ∙ at) in
-      let added = begins.added (next ∙ sym same_length) in
-      subst (λ ks. AllZip R ks more) (sym (row_new keys k new))
-      (subst (AllZip R (keys ++ k ∷ [])) (sym added.1)
-      (all_zipped_more R keys folds k added.0 h (fresh new added.0 added.2))))
-
-  begun_below : n < length more
-  begun_below = by_bool (list_any (same_row k) keys)
-      (λ known.
-      let below : n < length keys = number_below keys k n (ap (λ ks. slice_get ks n) (sym (row_known keys k known)) ∙
-      at) in
-      let same : more ≡ folds = begins.kept (λ e. absurd (omega (arith, e, below, same_length))) in
-      let long : length more ≡ length folds = ap length same in omega (arith, below, same_length, long))
-      (λ new.
-      let next : n ≡ length keys =
-      number_behind keys k n new (ap (λ ks. slice_get ks n) (sym (row_new keys k new)) ∙ at) in
-      let added = begins.added (next ∙ sym same_length) in
-      let long : length more ≡ length folds + 1 = ap length added.1 ∙ length-append folds (added.0 ∷ []) in
-      omega (arith, next, same_length, long))
+-- as many accumulators as aggregates
+pub folds_long : (t : Terms) (columns : List ℕ) (aggregates : List Aggregate) (rows : List Row) (key : Row)
+    (part : List Accumulator) → HaveFolded t aggregates part (with_key columns rows key)
+    → length part ≡ length aggregates
+folds_long t columns aggregates rows key part h =
+    AllZip-long (λ which a. HasFolded t which a (with_key columns rows key)) aggregates part h
 
 -- one more row
-pub grouped_more : {A : Type 0} (t : Terms) (columns : List ℕ) (given aggregates : List Aggregate) (old new : List Row)
-    (rows : List Row) (r : Row) (n : ℕ) (folds more last : List (Vec Accumulator A))
-    → given ≡ aggregates
-    → new ≡ with_row old (cells_at columns r) → slice_get new n ≡ Some (cells_at columns r)
-    → BeginsGroup given n folds more → TakesAt t given n more last r
-    → old ≡ keys_of columns rows
-    → AllZip (λ key f. HaveFolded t aggregates f.items (with_key columns rows key)) (keys_of columns rows) folds
-    → (new ≡ keys_of columns (rows ++ r ∷ []))
-    × AllZip (λ key f. HaveFolded t aggregates f.items (with_key columns (rows ++ r ∷ []) key))
-    (keys_of columns (rows ++ r ∷ [])) last
-grouped_more {A} t columns given aggregates old new rows r n folds more last same put at begins takes keys h =
+grouped_by_more : (t : Terms) (c : ℕ) (cs : List ℕ) (aggregates : List Aggregate) (old new : Groups)
+    (last : List Accumulator) (rows : List Row) (r : Row) (n : ℕ)
+    → Enters (c ∷ cs) aggregates old new r n → TakesAt t aggregates n new.folds.items last r
+    → HasGrouped t (c ∷ cs) aggregates old rows
+    → AreGrouped t (c ∷ cs) aggregates new.keys last (rows ++ r ∷ [])
+grouped_by_more t c cs aggregates old new last rows r n enters takes h =
+    let columns : List ℕ = c ∷ cs in
     let k : Row = cells_at columns r in
-    let before : List Row = keys_of columns rows in
     let later : List Row = keys_of columns (rows ++ r ∷ []) in
-    let grown : with_row before k ≡ later = keys_grow columns rows r in
-    let is : new ≡ with_row before k = put ∙ ap (λ ks. with_row ks k) keys in
-    let found : slice_get (with_row before k) n ≡ Some k = ap (λ ks. slice_get ks n) (sym is) ∙ at in
-    let begins' : BeginsGroup aggregates n folds more = subst (λ ws. BeginsGroup ws n folds more) same begins in
-    let takes' : TakesAt t aggregates n more last r = subst (λ ws. TakesAt t ws n more last r) same takes in
-    let of_rows : Row → Vec Accumulator A → Type 0 =
-    λ key f. HaveFolded t aggregates f.items (with_key columns rows key) in
-    let of_more : Row → Vec Accumulator A → Type 0 =
-    λ key f. HaveFolded t aggregates f.items (with_key columns (rows ++ r ∷ []) key) in
-    let begun : AllZip of_rows later more =
-    subst (λ ks. AllZip of_rows ks more) grown
-    (all_begun of_rows aggregates before k n folds more begins' found h
-    (λ fresh f none. subst (HaveFolded t aggregates f.items) (sym (no_rows columns rows r fresh)) (none t))) in
-    let took = takes' (begun_below of_rows aggregates before k n folds more begins' found h) in
-    let all : AllZip of_more later (slice_set more n took.0) =
-    one_takes of_rows of_more k
-    (λ key f apart g. subst (HaveFolded t aggregates f.items) (sym (stays columns rows r key apart)) g)
-    n later more took.0 (keys_differ columns (rows ++ r ∷ [])) (ap (λ ks. slice_get ks n) (sym grown) ∙ found)
-    (λ d g. subst (HaveFolded t aggregates took.0.items) (sym (taken columns rows r))
-    (took.2 d (with_key columns rows k) g))
-    begun in
-    (is ∙ grown, subst (AllZip of_more later) (sym took.1) all)
+    let grown : with_row (keys_of columns rows) k ≡ later = keys_grow columns rows r in
+    let is : new.keys ≡ later = enters.keys ∙ ap (λ ks. with_row ks k) h.keys ∙ grown in
+    let at : slice_get later n ≡ Some k = ap (λ ks. slice_get ks n) (sym is) ∙ enters.number in
+    let of_rows : Row → List Accumulator → Type 0 =
+    λ key part. HaveFolded t aggregates part (with_key columns rows key) in
+    let of_more : Row → List Accumulator → Type 0 =
+    λ key part. HaveFolded t aggregates part (with_key columns (rows ++ r ∷ []) key) in
+    let begun = entered of_rows columns aggregates old new r n (keys_of columns rows) h.parts enters h.keys h.flat
+    h.folds
+    (λ fresh f none. subst (HaveFolded t aggregates f) (sym (no_rows columns rows r fresh)) (none t)) in
+    let parts : List (List Accumulator) = begun.0 in
+    let all : AllZip of_rows later parts = subst (λ ks. AllZip of_rows ks parts) grown begun.2 in
+    let mine = zip_get of_rows n later parts k all at in
+    let inside : n < length parts = number_below parts mine.0 n mine.1 in
+    let took = takes (joined (take n parts)) mine.0 (joined (drop (suc n) parts)) (with_key columns rows k)
+    (begun.1 ∙ parted n parts mine.0 mine.1)
+    (long_before of_rows (length aggregates) (folds_long t columns aggregates rows) n later parts all
+    (omega (arith, inside)))
+    mine.2 in
+    record {
+      keys = is;
+      parts = slice_set parts n took.0;
+      flat = took.1 ∙ sym (replaced n parts took.0 inside);
+      folds = one_takes of_rows of_more k
+          (λ key f apart g. subst (HaveFolded t aggregates f) (sym (stays columns rows r key apart)) g)
+          n later parts took.0 (keys_differ columns (rows ++ r ∷ [])) at
+          (subst (HaveFolded t aggregates took.0) (sym (taken columns rows r)) took.2) all;
+    }
+
+-- one more row, without grouping columns
+all_in_one_more : (t : Terms) (aggregates : List Aggregate) (keys : List Row) (folds last : List Accumulator)
+    (rows : List Row) (r : Row)
+    → TakesAt t aggregates 0 folds last r
+    → AreGrouped t [] aggregates keys folds rows → AreGrouped t [] aggregates keys last (rows ++ r ∷ [])
+all_in_one_more t aggregates keys folds last rows r takes h =
+    let took = takes [] folds [] (with_key [] rows []) (sym (append-nil folds))
+    (sym (zero-mul (length aggregates)))
+    (only_part h.parts h.flat h.folds) in
+    record {
+      keys = h.keys;
+      parts = took.0 ∷ [];
+      flat = took.1;
+      folds = (subst (HaveFolded t aggregates took.0) (sym (taken [] rows r)) took.2, tt);
+    }
+  where
+    only_part : (parts : List (List Accumulator)) → folds ≡ joined parts
+        → AllZip (λ key part. HaveFolded t aggregates part (with_key [] rows key)) ([] ∷ []) parts
+        → HaveFolded t aggregates folds (with_key [] rows [])
+    only_part [] flat zip = absurd zip
+    only_part (p ∷ []) flat zip =
+        subst (λ fs. HaveFolded t aggregates fs (with_key [] rows [])) (sym (flat ∙ append-nil p)) zip.0
+    only_part (p ∷ q ∷ parts) flat zip = absurd zip.1
+
+pub grouped_more : (t : Terms) (columns : List ℕ) (aggregates : List Aggregate) (old new : Groups)
+    (last : List Accumulator) (r : Row) (n : ℕ) → nat_eq (length columns) 0 ≡ false
+    → Enters columns aggregates old new r n → TakesAt t aggregates n new.folds.items last r
+    → (rows : List Row) → HasGrouped t columns aggregates old rows
+    → AreGrouped t columns aggregates new.keys last (rows ++ r ∷ [])
+grouped_more t [] aggregates old new last r n e enters takes rows h = absurd (cc)
+grouped_more t (c ∷ cs) aggregates old new last r n e enters takes rows h =
+    grouped_by_more t c cs aggregates old new last rows r n enters takes h
+
+pub all_more : (t : Terms) (columns : List ℕ) (aggregates : List Aggregate) (keys : List Row)
+    (folds last : List Accumulator) (r : Row) → nat_eq (length columns) 0 ≡ true
+    → TakesAt t aggregates 0 folds last r
+    → (rows : List Row) → AreGrouped t columns aggregates keys folds rows
+    → AreGrouped t columns aggregates keys last (rows ++ r ∷ [])
+all_more t [] aggregates keys folds last r e takes rows h = all_in_one_more t aggregates keys folds last rows r takes h
+all_more t (c ∷ cs) aggregates keys folds last r e takes rows h =
+    absurd (omega (arith, eqb-true (suc (length cs)) 0 e))
+
+-- the groups of no rows
+pub none_begun : (t : Terms) (columns : List ℕ) (aggregates : List Aggregate) → nat_eq (length columns) 0 ≡ false
+    → AreGrouped t columns aggregates [] [] []
+none_begun t [] aggregates e = absurd (cc)
+none_begun t (c ∷ cs) aggregates e = record { keys = refl; parts = []; flat = refl; folds = tt }
+
+pub one_begun : (t : Terms) (columns : List ℕ) (aggregates : List Aggregate) (folds : List Accumulator)
+    → nat_eq (length columns) 0 ≡ true → Begins aggregates [] folds → AreGrouped t columns aggregates [] folds []
+one_begun t [] aggregates folds e begins = record {
+  keys = refl;
+  parts = begins.0 ∷ [];
+  flat = begins.1 ∙ sym (append-nil begins.0);
+  folds = (begins.2 t, tt);
+}
+one_begun t (c ∷ cs) aggregates folds e begins =
+    absurd (omega (arith, eqb-true (suc (length cs)) 0 e))
+
+-- the number of groups
+pub count_one : (columns : List ℕ) (rows : List Row) → nat_eq (length columns) 0 ≡ true
+    → 1 ≡ length (keys_of columns rows)
+count_one [] rows e = refl
+count_one (c ∷ cs) rows e =
+    absurd (omega (arith, eqb-true (suc (length cs)) 0 e))
+
+pub count_kept : (columns : List ℕ) (rows keys : List Row) → nat_eq (length columns) 0 ≡ false
+    → keys ≡ kept_keys columns rows → length keys ≡ length (keys_of columns rows)
+count_kept [] rows keys e is = absurd (cc)
+count_kept (c ∷ cs) rows keys e is = ap length is
 
 -- the result of a step that only memory can refuse
 pub takes_if : {U P Q : Type 0} (o : Option (List Row)) (result : Result U Refusal) → (P → Q)
@@ -302,14 +372,33 @@ pub takes_if : {U P Q : Type 0} (o : Option (List Row)) (result : Result U Refus
 takes_if o (Ok u) f h = f h
 takes_if o (Err e) f h = no_memory o e h
 
-pub as_long : (t : Terms) (columns : List ℕ) (aggregates : List Aggregate) (s : Groups) (rows : List Row)
-    → HasGrouped t columns aggregates s rows
-    → (length s.folds.items ≡ length (keys_of columns rows)) × (length s.keys ≡ length (keys_of columns rows))
-as_long t columns aggregates s rows h = (
-  AllZip-long (λ key folds. HaveFolded t aggregates folds.items (with_key columns rows key)) (keys_of columns rows)
-      s.folds.items h.folds,
-  ap length h.keys,
-)
+-- the accumulators of the group with a number
+module _ (t : Terms) (columns : List ℕ) (aggregates : List Aggregate) (s : Groups) (rows : List Row)
+    (h : HasGrouped t columns aggregates s rows) (n : ℕ) (part : List Accumulator)
+    (is : IsPart n (length aggregates) part s.folds.items) (below : n < length (keys_of columns rows)) where
+  abbrev key_here : Row
+  key_here = slice_index_or (keys_of columns rows) n []
+
+  pub part_folded : HaveFolded t aggregates part (with_key columns rows key_here)
+  part_folded =
+      let of_rows : Row → List Accumulator → Type 0 =
+      λ key part. HaveFolded t aggregates part (with_key columns rows key) in
+      let mine = zip_get of_rows n (keys_of columns rows) h.parts key_here h.folds
+      (slice_get-get_or (keys_of columns rows) n [] below) in
+      let inside : n < length h.parts = number_below h.parts mine.0 n mine.1 in
+      subst (λ fs. HaveFolded t aggregates fs (with_key columns rows key_here))
+      (sym (is (joined (take n h.parts)) mine.0 (joined (drop (suc n) h.parts))
+      (h.flat ∙ parted n h.parts mine.0 mine.1)
+      (long_before of_rows (length aggregates) (folds_long t columns aggregates rows) n (keys_of columns rows) h.parts
+      h.folds (omega (arith, inside)))
+      (folds_long t columns aggregates rows key_here mine.0 mine.2))) mine.2
+
+-- a kept key is that of its group
+pub kept_key : (columns : List ℕ) (rows : List Row) (n : ℕ) → n < length (keys_of columns rows)
+    → slice_index_or (kept_keys columns rows) n [] ≡ slice_index_or (keys_of columns rows) n []
+kept_key [] rows zero l = refl
+kept_key [] rows (suc n) l = absurd (omega (arith, l))
+kept_key (c ∷ cs) rows n l = refl
 
 -- ---- the groups of rows
 

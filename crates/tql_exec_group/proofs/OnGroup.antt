@@ -4,7 +4,7 @@ use Rattle.std.specs.Prelude.{IsTrue}
 use Rattle.std.specs.Prelude.{filter, if◌then◌else◌, nat_eq, nat_le, nat_lt, List, [], ◌∷◌, ◌++◌, All, map, length}
 use Rattle.std.specs.Prelude.{pos, Option}
 use Rattle.std.specs.Prelude.{Some, None, slice_get, slice_index_or}
-use Rattle.std.specs.List.{AllZip, cons_option, list_all}
+use Rattle.std.specs.List.{cons_option, list_all}
 use Rattle.std.proofs.Common.{sym, ap, subst, ◌∙◌, arith, add-zero, zero-add, inl, inr, take}
 use Rattle.std.proofs.lemmas.Bool.{and_parts, eqb-true, ltb-false, ltb-true}
 use Rattle.std.proofs.lemmas.Bool.Decides.{nat_tests}
@@ -47,6 +47,7 @@ use Rattle.tql_exec_group.specs.Steps.{value_in, AreSteps, IsStep, LiesIn}
 use Rattle.tql_exec_group.specs.declared.fold.Accumulator.{Accumulator}
 use Rattle.tql_exec_group.specs.declared.on_group.Found.{Found}
 use Rattle.tql_exec_group.specs.declared.steps.Steps.{Steps}
+use Rattle.tql_exec_group.proofs.Parts.{inside, zip_get}
 
 -- ---- tests
 
@@ -60,9 +61,6 @@ not_not false h = absurd (cc)
 
 not_both : (b : Bool) → b ≡ true → b ≡ false → ⊥
 not_both b e f = cc
-
-inside : {X : Type 0} (x y : X) → ◌≡◌ {A = Option X} (Some x) (Some y) → x ≡ y
-inside x y e = cc
 
 -- ---- the columns of a group
 
@@ -328,18 +326,6 @@ module _ (t : Terms) (columns : List ℕ) (rows : List Row) (row : Row) (from : 
 
 -- ---- the next aggregate
 
-module _ (t : Terms) (rows : List Row) where
-  pub fold_at : (ws : List code.Aggregate) (folds : List Accumulator) (k : ℕ) (w : code.Aggregate)
-      → AllZip (λ w a. HasFolded t w a rows) ws folds → slice_get ws k ≡ Some w
-      → (a : Accumulator) × (slice_get folds k ≡ Some a) × HasFolded t w a rows
-  fold_at [] [] zero w h is = absurd (cc)
-  fold_at [] [] (suc k) w h is = absurd (cc)
-  fold_at [] (a ∷ folds) k w h is = absurd h
-  fold_at (v ∷ ws) [] k w h is = absurd h
-  fold_at (v ∷ ws) (a ∷ folds) zero w h is =
-      (a, refl, subst (λ z. HasFolded t z a rows) (inside v w is) h.0)
-  fold_at (v ∷ ws) (a ∷ folds) (suc k) w h is = fold_at ws folds k w h.1 is
-
 behind_first : (which : code.Aggregate) (o : Option code.Aggregate) (xs ys : List code.Aggregate)
     → slice_get ys (length xs) ≡ Some which → slice_get (cons_option o ys) (length (cons_option o xs)) ≡ Some which
 behind_first which None xs ys e = e
@@ -420,7 +406,7 @@ module _ (t : Terms) (s : Steps) (i next : ℕ) (xs : List Node) (d : Node) (fou
         let at : slice_get s.aggregates.items next ≡ Some which =
         ap (λ ws. slice_get ws next) steps.aggregates ∙ ap (slice_get (aggregates_in s.nodes.items)) counted
         ∙ aggregate_among s.nodes.items i node which inside node_is is in
-        let fold = fold_at t rows s.aggregates.items folds next which held at in
+        let fold = zip_get (λ w a. HasFolded t w a rows) next s.aggregates.items folds which held at in
         told which is t rows row fold.0 fold.1 fold.2
 
     pub next_result : AreResults t columns rows row s.from (found ++ one ∷ [])

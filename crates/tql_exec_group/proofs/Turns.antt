@@ -6,14 +6,6 @@ use Rattle.std.proofs.lemmas.List.{take_more}
 use Rattle.std.proofs.lemmas.Slice.Zip.{all_zipped_more}
 
 module _ {A B : Type 0} (R : A → B → Type 0) where
-  -- the pair at an index
-  pub zip_at : (n : ℕ) (xs : List A) (ys : List B) (x : A) (y : B) → n < length xs → x ≡ slice_index_or xs n x
-      → n < length ys → y ≡ slice_index_or ys n y → AllZip R xs ys → R x y
-  zip_at n [] ys x y l is m at h = absurd (omega arith)
-  zip_at n (w ∷ xs) [] x y l is m at h = absurd (omega arith)
-  zip_at zero (w ∷ xs) (v ∷ ys) x y l is m at h = subst (λ q. R q y) (sym is) (subst (R w) (sym at) h.0)
-  zip_at (suc n) (w ∷ xs) (v ∷ ys) x y l is m at h = zip_at n xs ys x y (omega arith) is (omega arith) at h.1
-
   -- one more pair at the end, whichever the first item is
   pub one_begun : (n : ℕ) (xs : List A) (ys zs : List B) (y : B) → n < length xs → ((x : A) → R x y)
       → zs ≡ ys ++ y ∷ [] → AllZip R (take n xs) ys → AllZip R (take (n + 1) xs) zs
@@ -60,11 +52,3 @@ module _ {A B : Type 0} (R S : A → B → Type 0) where
   all_turned (suc n) [] (y ∷ ys) l h = absurd h
   all_turned (suc n) (x ∷ xs) [] l h = absurd h
   all_turned (suc n) (x ∷ xs) (y ∷ ys) l h = (h.0, all_turned n xs ys (omega arith) h.1)
-
-  -- none is alone
-  pub none_alone : (n : ℕ) (xs : List A) (ys : List B) → length xs ≤ n → n < length ys → AllTurned n xs ys → ⊥
-  none_alone n xs [] l m h = absurd (omega arith)
-  none_alone zero [] (y ∷ ys) l m h = h
-  none_alone zero (x ∷ xs) (y ∷ ys) l m h = absurd (omega arith)
-  none_alone (suc n) [] (y ∷ ys) l m h = h
-  none_alone (suc n) (x ∷ xs) (y ∷ ys) l m h = none_alone n xs ys (omega arith) (omega arith) h.1

@@ -1,21 +1,35 @@
 -- The accumulators of groups, when one more row comes.
-use Rattle.std.specs.Prelude.{◌≡◌, ℕ, ◌<◌, List, [], ◌∷◌, ◌++◌, Vec, length, slice_index_or, slice_set}
+use Rattle.std.specs.Prelude.{◌≡◌, ℕ, ◌*◌, List, [], ◌∷◌, ◌++◌, Some, length, slice_get}
 use Rattle.tql_spec.specs.Datum.{Row}
+use Rattle.tql_spec.specs.Query.{cells_at}
 use Rattle.tql_expr.specs.declared.terms.Aggregate.{Aggregate}
 use Rattle.tql_expr.specs.declared.terms.Terms.{Terms}
 use Rattle.tql_exec_group.specs.Folded.{HaveFolded}
 use Rattle.tql_exec_group.specs.declared.fold.Accumulator.{Accumulator}
+use Rattle.tql_exec_group.specs.declared.grouping.Groups.{Groups}
+use Rattle.tql_exec_numbered.specs.Numbered.{with_row}
 
-module _ {A : Type 0} where
-  -- if the number is that of a new group, accumulators of no rows are added; else nothing
-  pub record BeginsGroup (aggregates : List Aggregate) (number : ℕ) (old new : List (Vec Accumulator A)) : Type 0 where
-    pub added : number ≡ length old → (f : Vec Accumulator A) × (new ≡ old ++ f ∷ []) × ((t : Terms)
-        → HaveFolded t aggregates f.items [])
-    pub kept : (number ≡ length old → ⊥) → new ≡ old
+-- the accumulators that are added, one for each aggregate, have taken no rows
+abbrev pub Begins : List Aggregate → List Accumulator → List Accumulator → Type 0
+Begins aggregates old new =
+    (added : List Accumulator) × (new ≡ old ++ added) × ((t : Terms) → HaveFolded t aggregates added [])
 
-  -- the accumulators of the group with this number, if there is one, have taken the row
-  abbrev pub TakesAt : Terms → List Aggregate → ℕ → List (Vec Accumulator A) → List (Vec Accumulator A) → Row → Type 0
-  TakesAt t aggregates number old new row = number < length old → (f : Vec Accumulator A)
-      × (new ≡ slice_set old number f) × ((d : Vec Accumulator A) (rows : List Row)
-      → HaveFolded t aggregates (slice_index_or old number d).items rows
-      → HaveFolded t aggregates f.items (rows ++ row ∷ []))
+-- the row is of the group with this number, which begins if no row before was of it
+pub record Enters (columns : List ℕ) (aggregates : List Aggregate) (old new : Groups) (row : Row) (n : ℕ)
+    : Type 0 where
+  pub keys : new.keys ≡ with_row old.keys (cells_at columns row)
+  pub number : slice_get new.keys n ≡ Some (cells_at columns row)
+  pub begun : n ≡ length old.keys → Begins aggregates old.folds.items new.folds.items
+  pub kept : (n ≡ length old.keys → ⊥) → new.folds.items ≡ old.folds.items
+
+-- the part with a number, in a list of parts of this width one after another
+abbrev pub IsPart : ℕ → ℕ → List Accumulator → List Accumulator → Type 0
+IsPart number width part all = (before same after : List Accumulator) → all ≡ before ++ (same ++ after)
+    → length before ≡ number * width → length same ≡ width → part ≡ same
+
+-- the accumulators of the group with this number have taken the row, and no others
+abbrev pub TakesAt : Terms → List Aggregate → ℕ → List Accumulator → List Accumulator → Row → Type 0
+TakesAt t aggregates number old new row = (before part after : List Accumulator) (rows : List Row)
+    → old ≡ before ++ (part ++ after) → length before ≡ number * length aggregates → HaveFolded t aggregates part rows
+    → (taken : List Accumulator) × (new ≡ before ++ (taken ++ after))
+    × HaveFolded t aggregates taken (rows ++ row ∷ [])

@@ -1,14 +1,17 @@
--- The groups of rows, in the order of their first rows, and what a table of groups knows of the rows so far.
-use Rattle.std.specs.Prelude.{◌≡◌, ℕ, List, [], ◌∷◌, All, filter, map, slice_index_or}
+-- The groups of rows, in the order of their first rows, and what the state of the sink says of the rows so far.
+use Rattle.std.specs.Prelude.{◌≡◌, ℕ, List, [], ◌∷◌, ◌++◌, All, filter, map, Option, Some, slice_index_or}
 use Rattle.std.specs.List.{AllZip}
 use Rattle.tql_spec.specs.Datum.{Row, same_row}
 use Rattle.tql_spec.specs.Query.{cells_at, distinct_rows, of_group, Scope}
+use Rattle.tql_spec.specs.QueryLaws.{NamesGroups, shown}
+use Rattle.tql_expr.specs.Meaning.{cond, expr}
 use Rattle.tql_expr.specs.declared.terms.Aggregate.{Aggregate}
 use Rattle.tql_expr.specs.declared.terms.CondId.{CondId}
 use Rattle.tql_expr.specs.declared.terms.ExprId.{ExprId}
 use Rattle.tql_expr.specs.declared.terms.Terms.{Terms}
 use Rattle.tql_exec_group.specs.Folded.{HaveFolded}
 use Rattle.tql_exec_group.specs.Steps.{AreSteps, IsStepped}
+use Rattle.tql_exec_group.specs.declared.fold.Accumulator.{Accumulator}
 use Rattle.tql_exec_group.specs.declared.grouping.Grouping.{Grouping}
 use Rattle.tql_exec_group.specs.declared.grouping.Groups.{Groups}
 
@@ -25,12 +28,26 @@ with_key columns rows key = filter (λ r. same_row (cells_at columns r) key) row
 abbrev pub scope_at : List ℕ → List Row → ℕ → Scope
 scope_at columns rows number = of_group (with_key columns rows (slice_index_or (keys_of columns rows) number []))
 
--- the table has the groups of these rows, and the aggregates of each have taken its rows
-pub record HasGrouped (t : Terms) (columns : List ℕ) (aggregates : List Aggregate) (s : Groups) (rows : List Row)
-    : Type 0 where
-  pub keys : s.keys ≡ keys_of columns rows
-  pub folds : AllZip (λ key folds. HaveFolded t aggregates folds.items (with_key columns rows key))
-      (keys_of columns rows) s.folds.items
+-- the keys that are kept: none if there are no grouping columns
+abbrev pub kept_keys : List ℕ → List Row → List Row
+kept_keys [] rows = []
+kept_keys (c ∷ cs) rows = keys_of (c ∷ cs) rows
+
+-- lists one after another
+abbrev pub joined : {X : Type 0} → List (List X) → List X
+joined [] = []
+joined (xs ∷ others) = xs ++ joined others
+
+-- the keys are those of these rows, and the aggregates of each group have taken its rows
+pub record AreGrouped (t : Terms) (columns : List ℕ) (aggregates : List Aggregate) (kept : List Row)
+    (all : List Accumulator) (rows : List Row) : Type 0 where
+  pub keys : kept ≡ kept_keys columns rows
+  pub parts : List (List Accumulator)
+  pub flat : all ≡ joined parts
+  pub folds : AllZip (λ key part. HaveFolded t aggregates part (with_key columns rows key)) (keys_of columns rows) parts
+
+abbrev pub HasGrouped : Terms → List ℕ → List Aggregate → Groups → List Row → Type 0
+HasGrouped t columns aggregates s rows = AreGrouped t columns aggregates s.keys s.folds.items rows
 
 -- the sink of a query with these columns of GROUP BY, this HAVING and these items
 pub record IsGroupingOf (t : Terms) (cs : List ℕ) (conds : List CondId) (exprs : List ExprId) (g : Grouping)
@@ -45,3 +62,12 @@ pub record IsReady (g : Grouping) : Type 0 where
   pub steps : AreSteps g.terms.now g.steps
   pub having : All (λ (c : CondId). IsStepped g.steps c.place) g.having.now
   pub items : All (λ (x : ExprId). IsStepped g.steps x.place) g.items.now
+
+-- outside aggregates, HAVING and the items name grouping columns alone
+abbrev pub NamesKeys : Grouping → Type 0
+NamesKeys g =
+    NamesGroups (Some g.columns.now) (map (cond g.terms.now) g.having.now) (map (expr g.terms.now) g.items.now)
+
+-- the values of the items on the groups that pass HAVING
+abbrev pub shows : Grouping → List Scope → Option (List Row)
+shows g scopes = shown (map (cond g.terms.now) g.having.now) (map (expr g.terms.now) g.items.now) scopes

@@ -1,21 +1,22 @@
 //! GROUP BY, HAVING and the select list of a grouped query, as a sink: each row is folded into the accumulators of its
 //! group when it is handed over, so no list of the rows is kept. A group keeps its cells in the grouping columns and
 //! one accumulator for each aggregate of HAVING and the items.
-ghost use Rattle.std.specs.Prelude.{◌≡◌, ◌++◌, ◌∷◌, [], All, IfErr, IfOk, List, map, MatchResult, OnOk, slice_get};
-ghost use Rattle.std.specs.Prelude.{Some};
+ghost use Rattle.std.specs.Prelude.{◌≡◌, ◌++◌, ◌∷◌, [], All, IfErr, IfOk, length, List, MatchResult, OnOk};
+ghost use Rattle.std.specs.Prelude.{slice_get, slice_index_or, Some};
+ghost use Rattle.tql_value.specs.Views.{row_of};
 ghost use Rattle.tql_spec.specs.Datum.{Row};
 ghost use Rattle.tql_spec.specs.Query.{cells_at};
 ghost use Rattle.tql_expr.specs.Meaning.{HasOperand};
 ghost use Rattle.tql_expr.specs.declared.terms.Terms.{Terms as CodeTerms};
 ghost use Rattle.tql_exec_join.specs.Tuples.{tuple_row};
 ghost use Rattle.tql_exec_group.specs.Folded.{HaveFolded};
-ghost use Rattle.tql_exec_group.specs.Begun.{BeginsGroup, TakesAt};
+ghost use Rattle.tql_exec_group.specs.Begun.{Begins, Enters, IsPart, TakesAt};
 ghost use Rattle.tql_exec_group.specs.Places.{ArePlaces};
 ghost use Rattle.tql_exec_numbered.specs.Numbered.{with_row};
 ghost use Rattle.tql_exec_group.specs.Operands.{operands_prop as is_prop};
 
 use crate::fold::Accumulator;
-use crate::on_group::{Group, Results, add_shown, results_on};
+use crate::on_group::{Found, Group, Results, add_shown, find_results};
 use crate::places::places_of;
 use crate::steps::{Steps, steps_of};
 use std::alloc::AllocError;
@@ -61,10 +62,10 @@ impl Drop for Grouping<'_> {
 
 /// The groups of the rows so far, in the order of their first rows.
 pub struct Groups {
-    /// The cells of each group in the grouping columns.
+    /// The cells of each group in the grouping columns; nothing if there are no grouping columns.
     keys: Numbered,
-    /// The accumulators of each group, one for each aggregate.
-    folds: Vec<Vec<Accumulator, Memory>, Memory>,
+    /// The accumulators of all groups, one group after another, with one for each aggregate.
+    folds: Vec<Accumulator, Memory>,
 }
 
 impl Drop for Groups {
@@ -75,67 +76,55 @@ impl Drop for Groups {
     }
 }
 
-/// Has each accumulator take one more row. The only error is a refused allocation.
-fn take_each(
+/// Has the accumulators of the group with a number take one more row. The only error is a refused allocation.
+fn take_at(
     memory: Memory,
     terms: &Terms,
     aggregates: &[Aggregate],
-    folds: &mut [Accumulator],
-    row: &Tuple<'_>,
-) -> Result<(), Refusal>
-    requires { All (HasOperand terms.now) aggregates.now }
-    ensures { MatchResult result
-        (λ _. (rows : List Row) → HaveFolded terms.now aggregates.now folds.old rows
-        → HaveFolded terms.now aggregates.now folds.new (rows ++ tuple_row row.now ∷ []))
-        (λ e. e ≡ Refusal.OutOfMemory) }
-{
-    for (place, fold) in folds.iter_mut().enumerate() {
-        let Some(which) = aggregates.get(place) else {
-            return Ok(());
-        };
-        fold.take(memory, terms, *which, row)?;
-    }
-    Ok(())
-}
-
-/// Has all accumulators of a group take one more row. The only error is a refused allocation.
-fn take_all(
-    memory: Memory,
-    terms: &Terms,
-    aggregates: &[Aggregate],
+    number: usize,
     folds: &mut Vec<Accumulator, Memory>,
     row: &Tuple<'_>,
 ) -> Result<(), Refusal>
     requires { All (HasOperand terms.now) aggregates.now }
     ensures { MatchResult result
-        (λ _. (rows : List Row) → HaveFolded terms.now aggregates.now folds.old.items rows
-        → HaveFolded terms.now aggregates.now folds.new.items (rows ++ tuple_row row.now ∷ []))
+        (λ _. TakesAt terms.now aggregates.now number folds.old.items folds.new.items (tuple_row row.now))
         (λ e. e ≡ Refusal.OutOfMemory) }
 {
-    take_each(memory, terms, aggregates, folds, row)
+    let mut at = number.saturating_mul(aggregates.len());
+    for which in aggregates {
+        if folds.len() <= at {
+            return Ok(());
+        }
+        folds[at].take(memory, terms, *which, row)?;
+        at += 1;
+    }
+    Ok(())
 }
 
-/// Returns accumulators of no rows, one for each aggregate. The only error is a refused allocation.
-fn begun(memory: Memory, aggregates: &[Aggregate]) -> Result<Vec<Accumulator, Memory>, AllocError>
-    ensures { IfOk result (λ v. (t : CodeTerms) → HaveFolded t aggregates.now v.items []) }
+/// Returns the accumulators of the group with a number, of which there are `width`.
+fn folds_at(state: &Groups, number: usize, width: usize) -> &[Accumulator]
+    ensures { IsPart number width result.now state.now.folds.items }
 {
-    let mut folds = Vec::with_capacity(memory, aggregates.len())?;
+    let folds = state.folds.as_slice();
+    let start = number.saturating_mul(width);
+    let end = start.saturating_add(width);
+    if folds.len() < end {
+        return &[];
+    }
+    &folds[start..end]
+}
+
+/// Adds accumulators of no rows, one for each aggregate. The only error is a refused allocation.
+fn begin_group(
+    aggregates: &[Aggregate],
+    folds: &mut Vec<Accumulator, Memory>,
+) -> Result<(), AllocError>
+    ensures { OnOk result (Begins aggregates.now folds.old.items folds.new.items) }
+{
     for _which in aggregates {
         folds.push(Accumulator::new())?;
     }
-    Ok(folds)
-}
-
-/// Returns the number of the only group of a query without grouping columns.
-fn only_number(keys: &mut Numbered) -> Result<usize, Refusal>
-    ensures keys { OnOk result (keys.new ≡ with_row keys.old []) }
-    ensures number { IfOk result (λ n. slice_get keys.new n ≡ Some []) }
-    ensures memory { IfErr result (λ e. e ≡ Refusal.OutOfMemory) }
-{
-    if keys.len() == 1 && keys.row(0).is_empty() {
-        return Ok(0);
-    }
-    keys.put(&[])
+    Ok(())
 }
 
 /// Returns the number of the group of a row, which is a new one behind the others if none has its cells. A row of a
@@ -151,7 +140,6 @@ fn number_of(
     ensures memory { IfErr result (λ e. e ≡ Refusal.OutOfMemory) }
 {
     match columns {
-        [] => only_number(keys),
         [a] => keys.put(&[row.column(*a)]),
         [a, b] => keys.put(&[row.column(*a), row.column(*b)]),
         [a, b, c] => keys.put(&[row.column(*a), row.column(*b), row.column(*c)]),
@@ -177,39 +165,37 @@ fn put_all(
     keys.put(&cells)
 }
 
-/// Adds accumulators of no rows if the number is that of a new group. The only error is a refused allocation.
-fn begin_group(
+/// Returns the number of the group of a row, which is begun if none has its cells. The only error is a refused
+/// allocation.
+fn enter(
     memory: Memory,
+    columns: &[usize],
     aggregates: &[Aggregate],
-    number: usize,
-    folds: &mut Vec<Vec<Accumulator, Memory>, Memory>,
-) -> Result<(), AllocError>
-    ensures { OnOk result (BeginsGroup aggregates.now number folds.old.items folds.new.items) }
-{
-    if number == folds.len() {
-        folds.push(begun(memory, aggregates)?)?;
-    }
-    Ok(())
-}
-
-/// Has the accumulators of a group take one more row. The only error is a refused allocation.
-fn take_at(
-    memory: Memory,
-    terms: &Terms,
-    aggregates: &[Aggregate],
-    number: usize,
-    folds: &mut Vec<Vec<Accumulator, Memory>, Memory>,
+    state: &mut Groups,
     row: &Tuple<'_>,
-) -> Result<(), Refusal>
-    requires { All (HasOperand terms.now) aggregates.now }
+) -> Result<usize, Refusal>
     ensures { MatchResult result
-        (λ _. TakesAt terms.now aggregates.now number folds.old.items folds.new.items (tuple_row row.now))
+        (λ n. Enters columns.now aggregates.now state.old state.new (tuple_row row.now) n)
         (λ e. e ≡ Refusal.OutOfMemory) }
 {
-    if number < folds.len() {
-        take_all(memory, terms, aggregates, &mut folds[number], row)?;
+    let groups = state.keys.len();
+    let number = number_of(memory, &mut state.keys, columns, row)?;
+    if number != groups {
+        return Ok(number);
     }
-    Ok(())
+    begin_group(aggregates, &mut state.folds)?;
+    Ok(number)
+}
+
+/// Returns the key with a number; the only one of no columns is not among them.
+fn key_of(keys: &Numbered, number: usize) -> &[Value]
+    ensures { row_of result.now ≡ slice_index_or keys.now number [] }
+{
+    if number < keys.len() {
+        keys.row(number)
+    } else {
+        &[]
+    }
 }
 
 impl Sink for Grouping<'_> {
@@ -224,8 +210,17 @@ impl Sink for Grouping<'_> {
 
     fn take(&self, state: &mut Groups, row: &Tuple<'_>) -> Result<(), Refusal> {
         let aggregates = self.steps.aggregates.as_slice();
-        let number = number_of(self.memory, &mut state.keys, self.columns, row)?;
-        begin_group(self.memory, aggregates, number, &mut state.folds)?;
+        if self.columns.is_empty() {
+            return take_at(
+                self.memory,
+                self.terms,
+                aggregates,
+                0,
+                &mut state.folds,
+                row,
+            );
+        }
+        let number = enter(self.memory, self.columns, aggregates, state, row)?;
         take_at(
             self.memory,
             self.terms,
@@ -246,7 +241,8 @@ impl<'q> Grouping<'q> {
     ghost use Rattle.tql_expr.specs.Evaluated.{Evaluated, behind};
     ghost use Rattle.tql_expr.specs.Meaning.{cond, expr, HasCond, HasExpr};
     ghost use Rattle.tql_exec_group.specs.Folded.{HaveFolded};
-    ghost use Rattle.tql_exec_group.specs.Grouped.{scope_at, HasGrouped, IsGroupingOf, IsReady};
+    ghost use Rattle.tql_exec_group.specs.Grouped.{keys_of, kept_keys, scope_at, HasGrouped, IsGroupingOf};
+    ghost use Rattle.tql_exec_group.specs.Grouped.{shows, IsReady, NamesKeys};
     ghost use Rattle.tql_exec_group.specs.Results.{IsKeyOf};
 
     /// Returns the sink of a grouped query. Its nodes and the indexes of its columns are collected once. The only error
@@ -283,76 +279,84 @@ impl<'q> Grouping<'q> {
             (λ s. HasGrouped self.now.terms.now self.now.columns.now self.now.steps.aggregates.items s [])
             (λ e. e ≡ Refusal.OutOfMemory) }
     {
-        let mut keys = Numbered::new(self.memory);
-        let mut folds: Vec<Vec<Accumulator, Memory>, Memory> = Vec::new(self.memory);
-        if self.columns.is_empty() {
-            keys.put(&[])?;
-            folds.push(begun(self.memory, &self.steps.aggregates)?)?;
+        let keys = Numbered::new(self.memory);
+        let mut folds = Vec::new(self.memory);
+        if !self.columns.is_empty() {
+            return Ok(Groups { keys, folds });
         }
+        begin_group(&self.steps.aggregates, &mut folds)?;
         Ok(Groups { keys, folds })
     }
 
     /// Adds the values of the items on a group if it passes HAVING. Refused if an evaluation that is reached is out of
     /// range, or if an allocation is refused.
-    fn add_group(
-        &self,
-        key: &[Value],
-        folds: &[Accumulator],
+    fn add_group<'a>(
+        &'a self,
+        key: &'a [Value],
+        folds: &'a [Accumulator],
+        found: &mut Vec<Found<'a>, Memory>,
         made: &mut Vec<Vec<Value, Memory>, Memory>,
     ) -> Result<(), Refusal>
         requires ready { IsReady self.now }
-        requires named { NamesGroups (Some self.now.columns.now) (map (cond self.now.terms.now) self.now.having.now)
-            (map (expr self.now.terms.now) self.now.items.now) }
+        requires named { NamesKeys self.now }
         ensures { (rows : List Row) (row : Row)
             → HaveFolded self.now.terms.now self.now.steps.aggregates.items folds.now rows
             → IsKeyOf self.now.columns.now (row_of key.now) row
             → Evaluated (λ _. rows_of made.new.items) (behind (rows_of made.old.items)
-            (shown (map (cond self.now.terms.now) self.now.having.now)
-            (map (expr self.now.terms.now) self.now.items.now)
-            (record { row = row; group = rows } ∷ []))) result }
+            (shows self.now (record { row = row; group = rows } ∷ []))) result }
     {
         let group = Group {
             columns: self.columns,
-            places: self.places.as_slice(),
+            places: &self.places,
             key,
             folds,
         };
-        let found = results_on(self.memory, self.terms, &self.steps, group)?;
+        find_results(self.terms, &self.steps, group, found)?;
         let results = Results {
             from: self.steps.from,
-            found: &found,
+            found: found.as_slice(),
         };
         add_shown(self.memory, results, self.having, self.items, made)
     }
 
     /// Adds the values of the items on the group with a number if it passes HAVING. Refused as in `add_group`.
-    fn add_numbered(
-        &self,
-        state: &Groups,
+    fn add_numbered<'a>(
+        &'a self,
+        state: &'a Groups,
         number: usize,
+        found: &mut Vec<Found<'a>, Memory>,
         made: &mut Vec<Vec<Value, Memory>, Memory>,
     ) -> Result<(), Refusal>
         requires ready { IsReady self.now }
-        requires named { NamesGroups (Some self.now.columns.now) (map (cond self.now.terms.now) self.now.having.now)
-            (map (expr self.now.terms.now) self.now.items.now) }
-        requires within { number < length state.now.folds.items }
+        requires named { NamesKeys self.now }
         ensures { (rows : List Row)
             → HasGrouped self.now.terms.now self.now.columns.now self.now.steps.aggregates.items state.now rows
+            → number < length (keys_of self.now.columns.now rows)
             → Evaluated (λ _. rows_of made.new.items) (behind (rows_of made.old.items)
-            (shown (map (cond self.now.terms.now) self.now.having.now)
-            (map (expr self.now.terms.now) self.now.items.now)
-            (scope_at self.now.columns.now rows number ∷ []))) result }
+            (shows self.now (scope_at self.now.columns.now rows number ∷ []))) result }
     {
-        if number >= state.keys.len() {
-            return Ok(());
+        let key = key_of(&state.keys, number);
+        let width = self.steps.aggregates.len();
+        let folds = folds_at(state, number, width);
+        self.add_group(key, folds, found, made)
+    }
+
+    /// Returns the number of groups. Without grouping columns there is one, and no key is kept.
+    fn count(&self, keys: &Numbered) -> usize
+        ensures { (rows : List Row) → keys.now ≡ kept_keys self.now.columns.now rows
+            → result ≡ length (keys_of self.now.columns.now rows) }
+    {
+        if self.columns.is_empty() {
+            1
+        } else {
+            keys.len()
         }
-        self.add_group(state.keys.row(number), &state.folds[number], made)
     }
 
     /// Returns the values of the items for each group that passes HAVING, in the order of the groups' first rows.
     /// Refused if an evaluation that is reached is out of range, or if an allocation is refused: an aggregate that is
     /// out of range refuses only if HAVING, from the left, or an item of a group that passes reaches it.
-    pub fn told(&self, state: &Groups) -> Result<Vec<Vec<Value, Memory>, Memory>, Refusal>
+    pub fn told<'a>(&'a self, state: &'a Groups) -> Result<Vec<Vec<Value, Memory>, Memory>, Refusal>
         requires ready { IsReady self.now }
         requires named { NamesGroups (Some self.now.columns.now) (map (cond self.now.terms.now) self.now.having.now)
             (map (expr self.now.terms.now) self.now.items.now) }
@@ -364,8 +368,9 @@ impl<'q> Grouping<'q> {
             (scopes (Some self.now.columns.now) rows)) result }
     {
         let mut made: Vec<Vec<Value, Memory>, Memory> = Vec::new(self.memory);
-        for number in 0..state.folds.len() {
-            self.add_numbered(state, number, &mut made)?;
+        let mut found: Vec<Found<'_>, Memory> = Vec::new(self.memory);
+        for number in 0..self.count(&state.keys) {
+            self.add_numbered(state, number, &mut found, &mut made)?;
         }
         Ok(made)
     }

@@ -8,5 +8,4 @@ pub mod grouping;
 pub mod listing;
 mod on_group;
 mod places;
-mod showing;
 pub mod steps;

@@ -1,8 +1,8 @@
 //! HAVING and the select list on a group, from the cells of its grouping columns and its aggregates. The nodes are
 //! evaluated one after another, each once. A result out of range is kept as such: it refuses the query only if HAVING
 //! or an item reaches it.
-ghost use Rattle.std.specs.Prelude.{◌≡◌, ◌+◌, ◌<◌, ◌^◌, ◌∷◌, [], All, IfOk, IsTrue, List, map, length, None};
-ghost use Rattle.std.specs.Prelude.{slice_get, Some};
+ghost use Rattle.std.specs.Prelude.{◌≡◌, ◌+◌, ◌<◌, ◌^◌, ◌∷◌, [], All, IsTrue, List, map, length, None};
+ghost use Rattle.std.specs.Prelude.{OnOk, slice_get, Some};
 ghost use Rattle.tql_spec.specs.Datum as pure;
 ghost use Rattle.tql_spec.specs.Expression as bound;
 ghost use Rattle.tql_spec.specs.Words.{map_all};
@@ -210,26 +210,26 @@ fn after(node: Node, next: usize) -> usize
     }
 }
 
-/// Returns the results of all nodes on a group. The only error is a refused allocation.
-pub(crate) fn results_on<'a>(
-    memory: Memory,
+/// Replaces the results of a group by those of all nodes on this group. The only error is a refused allocation.
+pub(crate) fn find_results<'a>(
     terms: &'a Terms,
     steps: &Steps,
     group: Group<'a>,
-) -> Result<Vec<Found<'a>, Memory>, AllocError>
+    found: &mut Vec<Found<'a>, Memory>,
+) -> Result<(), AllocError>
     requires { AreSteps terms.now steps.now }
-    ensures size { IfOk result (λ v. length v.items ≡ length steps.now.nodes.items) }
-    ensures results { IfOk result (λ v. (rows : List pure.Row) (row : pure.Row)
+    ensures size { OnOk result (length found.new.items ≡ length steps.now.nodes.items) }
+    ensures results { OnOk result ((rows : List pure.Row) (row : pure.Row)
         → HaveFolded terms.now steps.now.aggregates.items group.entry.folds.now rows
         → IsKeyOf group.entry.columns.now (row_of group.entry.key.now) row
-        → AreResults terms.now group.entry.columns.now rows row steps.now.from v.items) }
+        → AreResults terms.now group.entry.columns.now rows row steps.now.from found.new.items) }
 {
-    let mut found = Vec::with_capacity(memory, steps.nodes.len())?;
+    found.clear();
     let mut next = 0;
     for node in steps.nodes.iter() {
         let results = Results {
             from: steps.from,
-            found: &found,
+            found: found.as_slice(),
         };
         let one = Found {
             value: value_on(terms, group, *node, next, results),
@@ -238,7 +238,7 @@ pub(crate) fn results_on<'a>(
         next = after(*node, next);
         found.push(one)?;
     }
-    Ok(found)
+    Ok(())
 }
 
 /// Whether the conjuncts hold. From the left, each is reached only if all before it are TRUE.

@@ -8,7 +8,7 @@ use Rattle.tql_expr.specs.Evaluated.{Fails, behind}
 use Rattle.tql_expr.specs.Meaning.{cond, expr}
 use Rattle.tql_value.specs.Views.{rows_of}
 use Rattle.tql_exec_group.specs.Grouped.{keys_of, scope_at}
-use Rattle.tql_exec_group.proofs.Groups.{all_shown, as_long, scopes_from, scopes_long}
+use Rattle.tql_exec_group.proofs.Groups.{all_shown, scopes_from, scopes_long}
 use Rattle.tql_exec_group.proofs.Scopes.{one_more_shown, one_not_shown}
 use Rattle.tql_exec_group.proofs.grouping.Grouping.told.Goals as goal
 
@@ -19,9 +19,8 @@ returns-in_err-add_numbered c = λ rows h.
     let conds = map (cond t) c.args.self.now.having.now in
     let exprs = map (expr t) c.args.self.now.items.now in
     let n = c.loop-number.number in
-    let long = as_long t columns c.args.self.now.steps.aggregates.items c.args.state.now rows h in
     let below : n < length (keys_of columns rows) =
-    omega (arith, c.loop-number-test.true, c.len-number-end.ensures, long.0) in
+    omega (arith, c.loop-number-test.true, c.count-number-end.ensures rows h.keys) in
     let ss = scopes (Some columns) rows in
     let s = scope_at columns rows n in
     let done = rows_of c.loop-number.made.items in
@@ -30,7 +29,7 @@ returns-in_err-add_numbered c = λ rows h.
     fails_with (behind done (shown conds exprs (s ∷ []))) all _
     (one_not_shown conds exprs s (drop (n + 1) ss) (drop n ss) done all (scopes_from columns rows n below)
     (c.loop-number.invariant rows h))
-    (c.in_err-add_numbered.ensures rows h) in
+    (c.in_err-add_numbered.ensures rows h below) in
     search rules
 
 pub loop-number-preserved : goal.loop-number-preserved
@@ -40,14 +39,13 @@ loop-number-preserved c = λ rows h.
     let conds = map (cond t) c.args.self.now.having.now in
     let exprs = map (expr t) c.args.self.now.items.now in
     let n = c.loop-number.number in
-    let long = as_long t columns c.args.self.now.steps.aggregates.items c.args.state.now rows h in
     let below : n < length (keys_of columns rows) =
-    omega (arith, c.loop-number-test.true, c.len-number-end.ensures, long.0) in
+    omega (arith, c.loop-number-test.true, c.count-number-end.ensures rows h.keys) in
     let ss = scopes (Some columns) rows in
     one_more_shown conds exprs (scope_at columns rows n) (drop (n + 1) ss) (drop n ss) (rows_of
     c.loop-number.made.items)
     (rows_of c.add_numbered.new.made.items) (shown conds exprs ss) (scopes_from columns rows n below)
-    (c.in_ok-add_numbered.ensures rows h) (c.loop-number.invariant rows h)
+    (c.in_ok-add_numbered.ensures rows h below) (c.loop-number.invariant rows h)
 
 pub returns : goal.returns
 returns c = λ rows h.
@@ -56,9 +54,8 @@ returns c = λ rows h.
     let conds = map (cond t) c.args.self.now.having.now in
     let exprs = map (expr t) c.args.self.now.items.now in
     let n = c.loop-number.number in
-    let long = as_long t columns c.args.self.now.steps.aggregates.items c.args.state.now rows h in
     let ss = scopes (Some columns) rows in
     let past : length ss ≤ n =
-    omega (arith, c.loop-number-test.false, c.len-number-end.ensures, long.0, scopes_long columns rows) in
+    omega (arith, c.loop-number-test.false, c.count-number-end.ensures rows h.keys, scopes_long columns rows) in
     all_shown conds exprs ss n (rows_of c.loop-number.made.items) (shown conds exprs ss) past
     (c.loop-number.invariant rows h)

@@ -5,7 +5,7 @@ use Rattle.tql_value.specs.Views.{row_of}
 use Rattle.tql_exec_group.specs.Results.{AreResults}
 use Rattle.tql_exec_group.specs.declared.on_group.Found.{Found}
 use Rattle.tql_exec_group.proofs.OnGroup.{next_count, next_few, next_result}
-use Rattle.tql_exec_group.proofs.on_group.results_on.Goals as goal
+use Rattle.tql_exec_group.proofs.on_group.find_results.Goals as goal
 
 pub loop-node-preserved : goal.loop-node-preserved
 loop-node-preserved c =
@@ -16,8 +16,8 @@ loop-node-preserved c =
     let xs = c.deref-node-items.result.now in
     let nodes = c.deref-node-items.ensures.value in
     let found = c.loop-node.found.items in
-    let given = c.deref.result.now in
-    let slice = c.deref.ensures.value in
+    let given = c.as_slice.result.now in
+    let slice = c.as_slice.ensures.value in
     let size = c.loop-node.invariant.size in
     let inside : i < length s.nodes.items =
     subst (λ ns. i < length ns) nodes c.loop-node-test.true in

@@ -5,7 +5,7 @@ use Rattle.tql_value.specs.Views.{row_of}
 use Rattle.tql_exec_group.specs.Folded.{HaveFolded}
 use Rattle.tql_exec_group.specs.Results.{AreResults, IsKeyOf}
 use Rattle.tql_exec_group.specs.Steps.{aggregates_in}
-use Rattle.tql_exec_group.proofs.on_group.results_on.Given as goal
+use Rattle.tql_exec_group.proofs.on_group.find_results.Given as goal
 
 -- invariant: the results so far are those of the first nodes, and `next` counts the aggregates among these
 abbrev pub invariant-loop-node : goal.invariant-loop-node

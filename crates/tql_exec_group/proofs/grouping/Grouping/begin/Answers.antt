@@ -1,0 +1,26 @@
+-- The groups of no rows.
+use Rattle.std.proofs.Common.{[], subst, sym, ◌∙◌}
+use Rattle.tql_exec_group.specs.Begun.{Begins}
+use Rattle.tql_exec_group.specs.Grouped.{AreGrouped}
+use Rattle.tql_exec_group.proofs.Groups.{none_begun, one_begun}
+use Rattle.tql_exec_group.proofs.grouping.Grouping.begin.Goals as goal
+
+pub returns-then-not-is_empty : goal.returns-then-not-is_empty
+returns-then-not-is_empty c =
+    let t = c.args.self.now.terms.now in
+    let columns = c.args.self.now.columns.now in
+    let aggregates = c.args.self.now.steps.aggregates.items in
+    subst (λ ks. AreGrouped t columns aggregates ks c.new-folds.result.items []) (sym c.new-keys.ensures)
+    (subst (λ fs. AreGrouped t columns aggregates [] fs []) (sym c.new-folds.ensures.items)
+    (none_begun t columns aggregates (sym c.is_empty.ensures ∙ c.if-not-is_empty.true)))
+
+pub returns : goal.returns
+returns c =
+    let t = c.args.self.now.terms.now in
+    let columns = c.args.self.now.columns.now in
+    let aggregates = c.args.self.now.steps.aggregates.items in
+    let new = c.begin_group.new.folds.items in
+    subst (λ ks. AreGrouped t columns aggregates ks new []) (sym c.new-keys.ensures)
+    (one_begun t columns aggregates new (sym c.is_empty.ensures ∙ c.if-not-is_empty.false)
+    (subst (λ ws. Begins ws [] new) c.deref.ensures.value
+    (subst (λ old. Begins c.deref.result.now old new) c.new-folds.ensures.items c.in_ok-begin_group.ensures)))
