@@ -1,7 +1,8 @@
 //! The distinct rows of a query without groups, as a sink: `SELECT DISTINCT x + 1, y FROM t, u WHERE ..`. The values of
 //! the items are calculated on each row when it is handed over, and copied only if no row before it had the same.
-ghost use Rattle.std.specs.Prelude.{◌≤◌, ◌∷◌, [], All, length, map, option_map};
+ghost use Rattle.std.specs.Prelude.{◌≡◌, ◌≤◌, ◌∷◌, [], All, length, map, option_map, Some};
 ghost use Rattle.tql_spec.specs.Expression as bound;
+ghost use Rattle.tql_spec.specs.Query.{alone, distinct_rows};
 ghost use Rattle.tql_spec.specs.QueryLaws.{shown};
 ghost use Rattle.tql_spec.specs.Words.{map_all};
 ghost use Rattle.tql_expr.specs.Evaluated.{Evaluated};
@@ -98,11 +99,6 @@ pub struct Distinct<'q> {
 impl Sink for Distinct<'_> {
     type State = Numbered;
 
-    ghost use Rattle.std.specs.Prelude.{◌≡◌, ◌∷◌, [], map, option_map, Some};
-    ghost use Rattle.tql_spec.specs.Query.{alone, distinct_rows};
-    ghost use Rattle.tql_spec.specs.QueryLaws.{shown};
-    ghost use Rattle.tql_expr.specs.Meaning.{cond, expr};
-
     ghost knows = { λ l s rows. option_map distinct_rows (shown (map (cond l.terms.now) l.having.now)
         (map (expr l.terms.now) l.items.now) (map alone rows)) ≡ Some s };
 
@@ -115,9 +111,6 @@ impl Sink for Distinct<'_> {
 }
 
 impl<'q> Distinct<'q> {
-    ghost use Rattle.std.specs.Prelude.{◌≡◌, [], All};
-    ghost use Rattle.tql_expr.specs.Meaning.{HasCond, HasExpr};
-
     /// Returns the sink of a query with DISTINCT and without groups.
     pub fn new(
         memory: Memory,

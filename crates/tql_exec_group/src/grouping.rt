@@ -1,10 +1,10 @@
 //! GROUP BY, HAVING and the select list of a grouped query, as a sink: each row is folded into the accumulators of its
 //! group when it is handed over, so no list of the rows is kept. A group keeps its cells in the grouping columns and
 //! one accumulator for each aggregate of HAVING and the items.
-ghost use Rattle.std.specs.Prelude.{◌≡◌, ◌++◌, ◌∷◌, [], All, IfErr, IfOk, length, List, MatchResult, OnOk};
+ghost use Rattle.std.specs.Prelude.{◌≡◌, ◌<◌, ◌++◌, ◌∷◌, [], All, IfErr, IfOk, length, List, map, MatchResult, OnOk};
 ghost use Rattle.std.specs.Prelude.{slice_get, slice_index_or, Some};
-ghost use Rattle.tql_value.specs.Views.{row_of};
 ghost use Rattle.tql_spec.specs.Datum.{Row};
+ghost use Rattle.tql_value.specs.Views.{row_of, rows_of};
 ghost use Rattle.tql_spec.specs.Query.{cells_at};
 ghost use Rattle.tql_expr.specs.Meaning.{HasOperand};
 ghost use Rattle.tql_expr.specs.declared.terms.Terms.{Terms as CodeTerms};
@@ -201,7 +201,6 @@ fn key_of(keys: &Numbered, number: usize) -> &[Value]
 impl Sink for Grouping<'_> {
     type State = Groups;
 
-    ghost use Rattle.std.specs.Prelude.{[], Some};
     ghost use Rattle.tql_exec_group.specs.Grouped.{HasGrouped};
 
     ghost knows = { λ g s rows. HasGrouped g.terms.now g.columns.now g.steps.aggregates.items s rows };
@@ -233,14 +232,10 @@ impl Sink for Grouping<'_> {
 }
 
 impl<'q> Grouping<'q> {
-    ghost use Rattle.std.specs.Prelude.{◌≡◌, ◌<◌, ◌∷◌, [], All, IfOk, length, List, map, MatchResult, Some};
-    ghost use Rattle.tql_spec.specs.Datum.{Row};
     ghost use Rattle.tql_spec.specs.Query.{scopes};
     ghost use Rattle.tql_spec.specs.QueryLaws.{NamesGroups, shown};
-    ghost use Rattle.tql_value.specs.Views.{row_of, rows_of};
     ghost use Rattle.tql_expr.specs.Evaluated.{Evaluated, behind};
     ghost use Rattle.tql_expr.specs.Meaning.{cond, expr, HasCond, HasExpr};
-    ghost use Rattle.tql_exec_group.specs.Folded.{HaveFolded};
     ghost use Rattle.tql_exec_group.specs.Grouped.{keys_of, kept_keys, scope_at, HasGrouped, IsGroupingOf};
     ghost use Rattle.tql_exec_group.specs.Grouped.{shows, IsReady, NamesKeys};
     ghost use Rattle.tql_exec_group.specs.Results.{IsKeyOf};

@@ -1,6 +1,7 @@
 //! The rows of a query without groups, as a sink: `SELECT x + 1, y FROM t, u WHERE ..`. The values of the items are
 //! calculated on each row when it is handed over, so no list of the joined rows is kept.
-ghost use Rattle.std.specs.Prelude.{◌∷◌, [], All, map};
+ghost use Rattle.std.specs.Prelude.{◌≡◌, ◌∷◌, [], All, map, Some};
+ghost use Rattle.tql_spec.specs.Query.{alone};
 ghost use Rattle.tql_spec.specs.QueryLaws.{shown};
 ghost use Rattle.tql_expr.specs.Evaluated.{Evaluated, behind};
 ghost use Rattle.tql_expr.specs.Meaning.{cond, expr, HasCond, HasExpr};
@@ -62,8 +63,6 @@ impl Drop for Listed {
 }
 
 impl Listed {
-    ghost use Rattle.std.specs.Prelude.{◌≡◌};
-
     /// Returns the rows of the result.
     pub fn rows(self) -> Vec<Vec<Value, Memory>, Memory>
         ensures { result.items ≡ self.made.items }
@@ -75,12 +74,6 @@ impl Listed {
 
 impl Sink for Listing<'_> {
     type State = Listed;
-
-    ghost use Rattle.std.specs.Prelude.{◌≡◌, ◌∷◌, [], map, Some};
-    ghost use Rattle.tql_spec.specs.Query.{alone};
-    ghost use Rattle.tql_spec.specs.QueryLaws.{shown};
-    ghost use Rattle.tql_value.specs.Views.{rows_of};
-    ghost use Rattle.tql_expr.specs.Meaning.{cond, expr};
 
     ghost knows = { λ l s rows. shown (map (cond l.terms.now) l.having.now) (map (expr l.terms.now) l.items.now)
         (map alone rows) ≡ Some (rows_of s.made.items) };
@@ -101,9 +94,6 @@ impl Sink for Listing<'_> {
 }
 
 impl<'q> Listing<'q> {
-    ghost use Rattle.std.specs.Prelude.{◌≡◌, [], All};
-    ghost use Rattle.tql_expr.specs.Meaning.{HasCond, HasExpr};
-
     /// Returns the sink of a query without groups.
     pub fn new(
         memory: Memory,

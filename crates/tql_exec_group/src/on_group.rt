@@ -1,7 +1,7 @@
 //! HAVING and the select list on a group, from the cells of its grouping columns and its aggregates. The nodes are
 //! evaluated one after another, each once. A result out of range is kept as such: it refuses the query only if HAVING
 //! or an item reaches it.
-ghost use Rattle.std.specs.Prelude.{◌≡◌, ◌+◌, ◌<◌, ◌^◌, ◌∷◌, [], All, IsTrue, List, map, length, None};
+ghost use Rattle.std.specs.Prelude.{◌≡◌, ◌+◌, ◌<◌, ◌≤◌, ◌^◌, ◌∷◌, [], All, IsTrue, List, map, length, None};
 ghost use Rattle.std.specs.Prelude.{OnOk, slice_get, Some};
 ghost use Rattle.tql_spec.specs.Datum as pure;
 ghost use Rattle.tql_spec.specs.Expression as bound;
@@ -61,11 +61,6 @@ pub(crate) struct Results<'f, 'a> {
 }
 
 impl<'a> Results<'_, 'a> {
-    ghost use Rattle.std.specs.Prelude.{◌≡◌, ◌+◌, ◌<◌, ◌≤◌, length};
-    ghost use Rattle.tql_value.specs.Views.{outcome};
-    ghost use Rattle.tql_expr.specs.Meaning.{judged};
-    ghost use Rattle.tql_exec_group.specs.Steps.{truth_in, value_in};
-
     /// Returns the value of the expression at a position.
     fn value(self, at: usize) -> Result<View<'a>, Range>
         requires above { self.from ≤ at }

@@ -1,8 +1,9 @@
 //! The nodes of HAVING and of the select list. They are collected once for a query, from the first that HAVING or an
 //! item reads to the last, so that each is evaluated once for a group, however often it is named.
-ghost use Rattle.std.specs.Prelude.{◌≡◌, ℕ, ◌+◌, ◌-◌, ◌<◌, ◌≤◌, All, IfOk, IfSome, IsSome, length};
+ghost use Rattle.std.specs.Prelude.{◌≡◌, ℕ, ◌+◌, ◌-◌, ◌<◌, ◌≤◌, ◌++◌, ◌∷◌, [], All, IfOk, IfSome, IsSome, IsTrue};
+ghost use Rattle.std.specs.Prelude.{length, OnOk};
 ghost use Rattle.tql_expr.specs.Meaning.{size, HasCond, HasExpr};
-ghost use Rattle.tql_exec_group.specs.Steps.{aggregate_of, reads_from, AreSteps, IsStepped, LiesIn};
+ghost use Rattle.tql_exec_group.specs.Steps.{aggregate_of, aggregates_in, reads_from, AreSteps, IsStepped, LiesIn};
 
 use std::alloc::AllocError;
 use tql_expr::node::Node;
@@ -133,10 +134,6 @@ fn with_exprs(stretch: Stretch, terms: &Terms, exprs: &[ExprId]) -> Stretch
 }
 
 impl Steps {
-    ghost use Rattle.std.specs.Prelude.{◌≡◌, ◌+◌, ◌<◌, ◌++◌, ◌∷◌, [], IfOk, IsTrue, length, OnOk};
-    ghost use Rattle.tql_expr.specs.Meaning.{size};
-    ghost use Rattle.tql_exec_group.specs.Steps.{aggregates_in, AreSteps};
-
     /// Returns no nodes from a position on. Makes no allocation.
     fn new(memory: Memory, from: usize) -> Steps
         ensures from { result.from ≡ from }
