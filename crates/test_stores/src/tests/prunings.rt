@@ -1,10 +1,11 @@
-//! tql_store: the versions that a horizon leaves, at once and later, with each allocation made to fail, in order.
+//! tql_store: the versions that a horizon leaves, at once and later, also where no memory is left.
 ghost use Rattle.std.specs.Prelude.{IfOk, IsTrue};
 ghost use Rattle.tql_store.specs.StoreModel.{has_table as table_there, AreRemovable};
 
 use crate::tests::stores::{Shown, current_ids, lists, row_of, shown, transact};
 use std::alloc::AllocError;
 use std::process::Abort;
+use std::slice;
 use std::test::Fail;
 use tql_index::tree_index::TreeIndex;
 use tql_memory::{Memory, memory};
@@ -16,18 +17,27 @@ use tql_value::value::{Value, View};
 use tql_value::when::When;
 use tql_versions::version::HIGH;
 
-/// Returns a change that removes all rows and adds one of the number.
+/// Returns a row of each number.
+fn rows_of(memory: Memory, numbers: &[i64]) -> Result<Vec<Vec<Value, Memory>, Memory>, Refusal> {
+    let mut rows: Vec<Vec<Value, Memory>, Memory> = Vec::new(memory);
+    for number in numbers {
+        let row = row_of(memory, *number)?;
+        rows.push(row)?;
+    }
+    Ok(rows)
+}
+
+/// Returns a change that removes all rows and adds one of each number.
 fn renewal(
     memory: Memory,
     store: &Store<TreeIndex>,
     table: TableId,
-    number: i64,
+    numbers: &[i64],
 ) -> Result<Delta, Refusal>
     requires { IsTrue (table_there store.now table) }
     ensures { IfOk result (λ d. AreRemovable store.now d.table d.removed.items) }
 {
-    let mut added: Vec<Vec<Value, Memory>, Memory> = Vec::new(memory);
-    added.push(row_of(memory, number)?)?;
+    let added = rows_of(memory, numbers)?;
     let removed = current_ids(memory, store, table)?;
     Ok(Delta {
         table,
@@ -35,6 +45,22 @@ fn renewal(
         added,
         count: 1,
     })
+}
+
+/// Replaces all rows of a table at the moment by one of each number.
+fn change(
+    rt: &impl Abort,
+    all: Memory,
+    store: &mut Store<TreeIndex>,
+    table: TableId,
+    numbers: &[i64],
+    moment: i64,
+) -> Result<(), Fail> {
+    assert!(rt; store.has_table(table));
+    let delta = renewal(all, store, table, numbers)?;
+    let made = transact(rt, store, moment, delta, true);
+    assert!(rt; made);
+    Ok(())
 }
 
 /// Renews the row of a table at the moment. The new row has the moment as its number.
@@ -45,11 +71,7 @@ fn renew(
     table: TableId,
     moment: i64,
 ) -> Result<(), Fail> {
-    assert!(rt; store.has_table(table));
-    let delta = renewal(all, store, table, moment)?;
-    let made = transact(rt, store, moment, delta, true);
-    assert!(rt; made);
-    Ok(())
+    change(rt, all, store, table, slice::from_ref(&moment), moment)
 }
 
 /// Adds a table whose rows are found by its first column, and by the second with the first.
@@ -64,9 +86,9 @@ fn add(
     Ok(table)
 }
 
-fn prune(rt: &impl Abort, store: &mut Store<TreeIndex>, horizon: i64) -> Result<(), Refusal> {
+fn prune(rt: &impl Abort, store: &mut Store<TreeIndex>, horizon: i64) {
     assert!(rt; !store.has_transaction() && store.horizon() <= horizon);
-    store.prune(horizon)
+    store.prune(horizon);
 }
 
 /// Whether the table has these versions and no others, and each of them is found by its number.
@@ -120,7 +142,7 @@ fn a_horizon_leaves_what_ends_after_it(rt: HostRuntime) -> Result<(), Fail> {
         renew(&rt, all, &mut store, brief, moment.saturating_add(1))?;
     }
     assert!(rt; store.horizon() == FIRST_MOMENT);
-    prune(&rt, &mut store, 25)?;
+    prune(&rt, &mut store, 25);
     assert!(rt; store.horizon() == 25);
     check_kept(
         &rt,
@@ -128,8 +150,8 @@ fn a_horizon_leaves_what_ends_after_it(rt: HostRuntime) -> Result<(), Fail> {
         table,
         &[(20, 20, 30), (30, 30, 40), (40, 40, HIGH)],
     )?;
-    prune(&rt, &mut store, 30)?;
-    prune(&rt, &mut store, 30)?;
+    prune(&rt, &mut store, 30);
+    prune(&rt, &mut store, 30);
     check_kept(&rt, &store, table, &[(30, 30, 40), (40, 40, HIGH)])?;
     renew(&rt, all, &mut store, table, 50)?;
     check_kept(
@@ -138,7 +160,7 @@ fn a_horizon_leaves_what_ends_after_it(rt: HostRuntime) -> Result<(), Fail> {
         table,
         &[(30, 30, 40), (40, 40, 50), (50, 50, HIGH)],
     )?;
-    prune(&rt, &mut store, HIGH)?;
+    prune(&rt, &mut store, HIGH);
     check_kept(&rt, &store, table, &[(50, 50, HIGH)])?;
     renew(&rt, all, &mut store, table, 60)?;
     check_kept(&rt, &store, table, &[(50, 50, 60), (60, 60, HIGH)])?;
@@ -147,56 +169,55 @@ fn a_horizon_leaves_what_ends_after_it(rt: HostRuntime) -> Result<(), Fail> {
     Ok(())
 }
 
-/// Makes a history of two tables in this memory, and prunes it with `granted` allocations. Returns whether that was
-/// done, and whether the remaining versions are right.
-fn prunes_both(
-    rt: &impl Abort,
-    all: Memory,
-    little: Memory,
-    granted: u64,
-) -> Result<(bool, bool), Fail> {
+#[test]
+fn a_horizon_needs_no_memory(rt: HostRuntime) -> Result<(), Fail> {
+    let all = memory(rt.alloc(), u64::MAX)?;
+    let little = memory(rt.alloc(), u64::MAX)?;
     let mut store: Store<TreeIndex> = Store::new(little);
-    let one = add(rt, all, &mut store, true)?;
-    let two = add(rt, all, &mut store, true)?;
+    let one = add(&rt, all, &mut store, true)?;
+    let two = add(&rt, all, &mut store, true)?;
     for moment in [10, 20, 30] {
-        renew(rt, all, &mut store, one, moment)?;
-        renew(rt, all, &mut store, two, moment.saturating_add(1))?;
+        renew(&rt, all, &mut store, one, moment)?;
+        renew(&rt, all, &mut store, two, moment.saturating_add(1))?;
     }
-    little.grant(granted);
-    let result = prune(rt, &mut store, 25);
+    little.grant(0);
+    prune(&rt, &mut store, 25);
     little.grant(u64::MAX);
-    match result {
-        Ok(()) => {
-            let are_right = store.horizon() == 25
-                && keeps(&store, one, &[(20, 20, 30), (30, 30, HIGH)])?
-                && keeps(&store, two, &[(21, 21, 31), (31, 31, HIGH)])?;
-            Ok((true, are_right))
-        }
-        Err(refusal) => {
-            let are_right = refusal == Refusal::OutOfMemory
-                && store.horizon() == FIRST_MOMENT
-                && keeps(&store, one, &[(10, 10, 20), (20, 20, 30), (30, 30, HIGH)])?
-                && keeps(&store, two, &[(11, 11, 21), (21, 21, 31), (31, 31, HIGH)])?;
-            Ok((false, are_right))
-        }
-    }
+    assert!(rt; store.horizon() == 25);
+    check_kept(&rt, &store, one, &[(20, 20, 30), (30, 30, HIGH)])?;
+    check_kept(&rt, &store, two, &[(21, 21, 31), (31, 31, HIGH)])
 }
 
 #[test]
-fn all_tables_are_pruned_or_none(rt: HostRuntime) -> Result<(), Fail> {
+fn versions_that_move_are_found(rt: HostRuntime) -> Result<(), Fail> {
     let all = memory(rt.alloc(), u64::MAX)?;
-    let mut refused: u64 = 0;
-    let mut done = false;
-    for granted in 0..96 {
-        let little = memory(rt.alloc(), u64::MAX)?;
-        let (is_done, are_right) = prunes_both(&rt, all, little, granted)?;
-        assert!(rt; are_right && (is_done || !done));
-        done = is_done;
-        if !is_done {
-            refused = granted;
-        }
-    }
-    // The first table makes ten allocations, so those of the second one were refused too.
-    assert!(rt; done && refused > 10);
-    Ok(())
+    let mut store: Store<TreeIndex> = Store::new(all);
+    let table = add(&rt, all, &mut store, true)?;
+    change(&rt, all, &mut store, table, &[1, 2, 3], 10)?;
+    change(&rt, all, &mut store, table, &[4, 5], 20)?;
+    change(&rt, all, &mut store, table, &[6, 7], 30)?;
+    change(&rt, all, &mut store, table, &[8], 40)?;
+    prune(&rt, &mut store, 20);
+    check_kept(
+        &rt,
+        &store,
+        table,
+        &[
+            (4, 20, 30),
+            (5, 20, 30),
+            (6, 30, 40),
+            (7, 30, 40),
+            (8, 40, HIGH),
+        ],
+    )?;
+    change(&rt, all, &mut store, table, &[9], 50)?;
+    prune(&rt, &mut store, 30);
+    check_kept(
+        &rt,
+        &store,
+        table,
+        &[(6, 30, 40), (7, 30, 40), (8, 40, 50), (9, 50, HIGH)],
+    )?;
+    prune(&rt, &mut store, 45);
+    check_kept(&rt, &store, table, &[(8, 40, 50), (9, 50, HIGH)])
 }
