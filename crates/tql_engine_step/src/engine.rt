@@ -154,7 +154,7 @@ impl<I: IntervalIndex> Engine<I> {
             Bound::Modify(modification) => self.modify(&modification),
             Bound::AnswerQuery(query) => self.answer_query(&query),
             Bound::SetClock(moment) => self.at(moment),
-            Bound::Prune(moment) => self.prune(moment),
+            Bound::Prune(moment) => Ok(self.prune(moment)),
             Bound::OpenReader(name) => self.open_reader(name),
             Bound::Read(read) => self.read(&read),
             Bound::CloseReader(name) => Ok(self.close_reader(&name)),
