@@ -3,6 +3,7 @@ pub mod Asked
 pub mod ChangeKeeps
 pub mod Copies
 pub mod CreateKeeps
+pub mod CurrentRows
 pub mod Creating
 pub mod Doing
 pub mod DropKeeps

@@ -9,7 +9,7 @@ ghost use Rattle.tql_result.specs.Replies.{plain_verb};
 use crate::engine::Engine;
 use tql_bound::change::{Insertion, Modification, QueryInsertion, Work};
 use tql_dml::insertion::{insert_rows, insert_tuples};
-use tql_dml::modification::modify;
+use tql_dml::modification::{modify, modify_current};
 use tql_engine_commit::committing::change_rows;
 use tql_index::index::IntervalIndex;
 use tql_keys::check::check;
@@ -126,7 +126,8 @@ impl<I: IntervalIndex> Engine<I> {
     }
 
     /// Returns the change that an UPDATE or DELETE makes to the current rows of its table. It reads only the rows of
-    /// the access path: of the others WHERE is not true, or they share no point with the portion.
+    /// the access path: of the others WHERE is not true, or they share no point with the portion. If the path is all
+    /// rows, they are read where they are stored, and only what is touched takes memory.
     pub(super) fn delta_of(&self, modification: &Modification) -> Result<Delta, Refusal>
         requires { modification.now.table < length self.now.tables }
         ensures { (p : Table) → slice_get self.now.tables modification.now.table ≡ Some p
@@ -140,8 +141,16 @@ impl<I: IntervalIndex> Engine<I> {
             &modification.conjuncts,
             modification.portion,
         )?;
-        let seen = self.store.look(table.id, When::Now, access.sought())?;
-        modify(self.memory, table, &seen, modification)
+        match access.sought() {
+            None => {
+                let current = self.store.current(table.id);
+                modify_current(self.memory, table, current, modification)
+            }
+            Some(sought) => {
+                let seen = self.store.look(table.id, When::Now, Some(sought))?;
+                modify(self.memory, table, &seen, modification)
+            }
+        }
     }
 
     /// Runs an UPDATE or a DELETE.
