@@ -15,6 +15,7 @@ The documents are README.md, CHANGELOG.md, docs/*.md and the README.md files of 
 - In each line '| `Module` | 12 |' of docs/DEFINITIONS.md the number is the module's count of lines (of tql_spec, or of the named file of another
   crate). --count writes the numbers anew.
 - A line of .rt and .antt has at most 120 characters, except the attributes #[tactic(..)], which the formatter joins.
+- No document has a mark of a merge that was left open.
 - Examples and links: see tools/pages.py.
 
 The status is 1 if something is wrong.
@@ -107,6 +108,7 @@ def main(words: list[str]) -> int:
     for document in documents():
         for at, line in enumerate(document.read_text(encoding="utf-8").split("\n"), 1):
             said = f"{document.relative_to(TOP)}:{at}"
+            wrong += [f"{said}: a merge was left open"] * line.startswith(("<<<<<<< ", ">>>>>>> "))
             wrong += [f"{said}: there is no crate {it}" for it in CRATE.findall(line) if it not in crates]
             wrong += [f"{said}: there is no {it}" for it in NAMED.findall(line) if not is_there(it, document, files, crates)]
             if document.name not in OF_SQL:
