@@ -141,21 +141,6 @@ add_right e l m r k s = record {
   );
 }
 
-pub add_within : (e : Entry) (l m r k : List Entry) → SameBag k (e ∷ m) → SameBag (l ++ (k ++ r))
-    (e ∷ (l ++ (m ++ r)))
-add_within e l m r k s = record {
-  totals = λ w. omega (
-    arith,
-    s.totals w,
-    sum_by-append w l (m ++ r),
-    sum_by-append w l (k ++ r),
-    sum_by-append w m r,
-    sum_by-append w k r,
-    sum_by-cons w e m,
-    sum_by-cons w e (l ++ (m ++ r)),
-  );
-}
-
 -- ---- an entry is removed
 
 pub less_left_order : (b : Bool) (e : Entry) (l m r k : List Entry) → Removes b e l k → IsInOrder k
