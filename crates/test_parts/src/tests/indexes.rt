@@ -86,18 +86,18 @@ fn unit(rt: &impl Abort, start: i64) -> Period {
     Period::new(start, start.saturating_add(1)).expect(rt, "it rises")
 }
 
-/// With rising starts, 2^10 - 1 entries make a full tree of ten levels.
+/// With rising starts each branch is filled with 31 entries, and 2^5 - 1 branches make a full tree of five levels.
 #[test]
 fn the_tree_stays_shallow(rt: HostRuntime) -> Result<(), Fail> {
     let mut tree = TreeIndex::new(memory(rt.alloc(), u64::MAX)?);
     let empty = (tree.is_empty(), tree.depth());
-    for start in 0i64..1023 {
+    for start in 0i64..961 {
         tree.add(unit(&rt, start), 0)?;
     }
     let mut list = ListIndex::new(memory(rt.alloc(), u64::MAX)?);
     let none = list.is_empty();
     list.add(unit(&rt, 0), 0)?;
     let found = (empty, tree.len(), tree.depth(), none, list.len());
-    assert_eq!(rt; found, ((true, 0), 1023, 10, true, 1));
+    assert_eq!(rt; found, ((true, 0), 961, 5, true, 1));
     Ok(())
 }
