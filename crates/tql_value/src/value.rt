@@ -38,9 +38,10 @@ pub enum Value {
 }
 
 /// A value for reading, which borrows its text.
-#[derive(Clone, Copy, PartialEq, Eq, Debug)]
+#[derive(Clone, Copy, Default, PartialEq, Eq, Debug)]
 pub enum View<'a> {
     /// No value.
+    #[default]
     Null,
     /// A whole number.
     Int(i64),

@@ -1,0 +1,125 @@
+//! The cells of a row, written as bytes.
+ghost use Rattle.std.specs.Prelude.{◌≡◌, ◌≤◌, ◌<◌, ◌++◌, ◌∷◌, List, ℕ, OnOk, IfOk, length, map};
+ghost use Rattle.std.specs.Int.{w16, to_le_bytes};
+ghost use Rattle.tql_spec.specs.Datum.{Null, Text};
+ghost use Rattle.tql_value.specs.Views.{datum_of_view};
+ghost use Rattle.tql_row.specs.Cells.{datum_of_number, front_of_text, Adds, IsWritten};
+
+use smallvec::SmallVec;
+use std::alloc::AllocError;
+use tql_memory::Memory;
+use tql_value::value::View;
+
+/// The bytes of a row: so many stand in the row itself.
+pub type Bytes = SmallVec<u8, 40, Memory>;
+
+/// Adds a tag, and the bytes behind it.
+fn put(bytes: &mut Bytes, tag: u8, rest: &[u8]) -> Result<(), AllocError>
+    ensures { OnOk result (bytes.new.items ≡ bytes.old.items ++ tag ∷ rest.now) }
+{
+    bytes.extend_from_slice(&[tag])?;
+    bytes.extend_from_slice(rest)
+}
+
+/// Adds the cell of a number of one byte.
+#[tactic(auto, using(crate::proofs::CellLemmas::adds_one))]
+fn put_one(bytes: &mut Bytes, kind: u8, number: i8) -> Result<(), AllocError>
+    requires { kind ≤ 3 }
+    ensures { OnOk result (Adds bytes.old.items bytes.new.items (datum_of_number kind number)) }
+{
+    put(bytes, kind * 16 + 1, &[number.cast_unsigned()])
+}
+
+/// Adds the cell of a number of two bytes.
+#[tactic(auto, using(crate::proofs::CellLemmas::adds_two))]
+fn put_two(bytes: &mut Bytes, kind: u8, number: i16) -> Result<(), AllocError>
+    requires { kind ≤ 3 }
+    ensures { OnOk result (Adds bytes.old.items bytes.new.items (datum_of_number kind number)) }
+{
+    put(bytes, kind * 16 + 2, &number.to_le_bytes())
+}
+
+/// Adds the cell of a number of four bytes.
+#[tactic(auto, using(crate::proofs::CellLemmas::adds_four))]
+fn put_four(bytes: &mut Bytes, kind: u8, number: i32) -> Result<(), AllocError>
+    requires { kind ≤ 3 }
+    ensures { OnOk result (Adds bytes.old.items bytes.new.items (datum_of_number kind number)) }
+{
+    put(bytes, kind * 16 + 4, &number.to_le_bytes())
+}
+
+/// Adds the cell of a number of eight bytes.
+#[tactic(auto, using(crate::proofs::CellLemmas::adds_eight))]
+fn put_eight(bytes: &mut Bytes, kind: u8, number: i64) -> Result<(), AllocError>
+    requires { kind ≤ 3 }
+    ensures { OnOk result (Adds bytes.old.items bytes.new.items (datum_of_number kind number)) }
+{
+    put(bytes, kind * 16 + 8, &number.to_le_bytes())
+}
+
+/// Adds the cell of a number of a kind, in as few bytes as it needs.
+fn put_number(bytes: &mut Bytes, kind: u8, number: i64) -> Result<(), AllocError>
+    requires { kind ≤ 3 }
+    ensures { OnOk result (Adds bytes.old.items bytes.new.items (datum_of_number kind number)) }
+{
+    if let Ok(small) = i8::try_from(number) {
+        return put_one(bytes, kind, small);
+    }
+    if let Ok(small) = i16::try_from(number) {
+        return put_two(bytes, kind, small);
+    }
+    if let Ok(small) = i32::try_from(number) {
+        return put_four(bytes, kind, small);
+    }
+    put_eight(bytes, kind, number)
+}
+
+/// Adds the cell of NULL.
+#[tactic(auto, using(crate::proofs::CellLemmas::adds_null))]
+fn put_null(bytes: &mut Bytes) -> Result<(), AllocError>
+    ensures { OnOk result (Adds bytes.old.items bytes.new.items Null) }
+{
+    put(bytes, 0, &[])
+}
+
+/// Adds the tag and the length of a text.
+fn put_length(bytes: &mut Bytes, length: usize) -> Result<(), AllocError>
+    ensures { OnOk result (bytes.new.items ≡ bytes.old.items ++ front_of_text length) }
+{
+    if let Ok(length) = u8::try_from(length) {
+        return put(bytes, 64, &[length]);
+    }
+    put(bytes, 65, &(length as u64).to_le_bytes())
+}
+
+/// Adds the cell of a text.
+#[tactic(auto, using(crate::proofs::CellLemmas::adds_text))]
+fn put_text(bytes: &mut Bytes, text: &str) -> Result<(), AllocError>
+    ensures { OnOk result (Adds bytes.old.items bytes.new.items (Text text.now)) }
+{
+    put_length(bytes, text.len())?;
+    bytes.extend_from_slice(text.as_bytes())
+}
+
+/// Adds the cell of a value.
+fn put_value(bytes: &mut Bytes, value: View<'_>) -> Result<(), AllocError>
+    ensures { OnOk result (Adds bytes.old.items bytes.new.items (datum_of_view value.entry)) }
+{
+    match value {
+        View::Null => put_null(bytes),
+        View::Int(number) => put_number(bytes, 1, number),
+        View::Day(day) => put_number(bytes, 2, day),
+        View::Moment(moment) => put_number(bytes, 3, moment),
+        View::Text(text) => put_text(bytes, text),
+    }
+}
+
+/// Adds the cells of values.
+pub fn put_each(bytes: &mut Bytes, values: &[View<'_>]) -> Result<(), AllocError>
+    ensures { OnOk result (IsWritten bytes.old.items (map datum_of_view values.now) bytes.new.items) }
+{
+    for value in values {
+        put_value(bytes, *value)?;
+    }
+    Ok(())
+}
