@@ -6,13 +6,14 @@ ghost use Rattle.std.specs.List.{insert};
 ghost use Rattle.tql_spec.specs.Bag.{SameBag};
 ghost use Rattle.tql_index.specs.Entry.{ids_at, ids_sharing, Removes};
 ghost use Rattle.tql_index.specs.Line.{place_of};
-ghost use Rattle.tql_index.specs.Slots.{entry_of, entries_in};
+ghost use Rattle.tql_index.specs.Slots.{entry_of, entries_in, HasEnds};
 ghost use Rattle.tql_index.specs.Spans.{points_between};
 ghost use Rattle.tql_index.specs.Tree.{greatest_end, IsInOrder, IsPlace, IsSide, StartsLate, WasGreatest};
 
 use crate::line::Place;
 use crate::search::push_if;
 use crate::slot::Slot;
+use crate::span::Span;
 use std::alloc::{AllocError, Allocator};
 use std::cmp::Ordering;
 use std::marker::Model;
@@ -40,6 +41,35 @@ fn last_end(slots: &[Slot]) -> Place
     end
 }
 
+// What a search reads of a run without a look at its entries.
+#[derive(Clone, Copy)]
+pub struct Ends {
+    // The greatest end of the entries.
+    greatest: Place,
+    // Copies of the first and the last entry, if there are any.
+    first: Slot,
+    last: Slot,
+}
+
+// Returns this greatest end, and copies of the first and the last of the entries; of another one if there are none.
+fn ends_of(slots: &[Slot], greatest: Place, other: Slot) -> Ends
+    ensures greatest { result.greatest ≡ greatest }
+    ensures ends { HasEnds slots.now result.first result.last }
+{
+    match (slots.first(), slots.last()) {
+        (Some(first), Some(last)) => Ends {
+            greatest,
+            first: *first,
+            last: *last,
+        },
+        _ => Ends {
+            greatest,
+            first: other,
+            last: other,
+        },
+    }
+}
+
 // Moves the upper half of the entries to another list, which is empty and gets room for a full run.
 fn halve<A: Allocator>(slots: &mut Vec<Slot, A>, upper: &mut Vec<Slot, A>) -> Result<(), AllocError>
     requires few { length slots.old.items ≤ 33 }
@@ -60,22 +90,22 @@ fn halve<A: Allocator>(slots: &mut Vec<Slot, A>, upper: &mut Vec<Slot, A>) -> Re
 #[derive(Drop)]
 pub struct Run<A: Allocator> {
     slots: Vec<Slot, A>,
-    // The greatest end of the entries. A search passes by a run that ends too early without a look at its entries.
-    end: Place,
+    // The entries are elsewhere in memory, so the way down a tree reads those of no run that it passes by.
+    ends: Ends,
 }
 
 impl<A: Allocator> Model for Run<A> {
     ghost use Rattle.std.specs.Prelude.{List};
     ghost use Rattle.tql_index.specs.Entry.{Entry};
     ghost use Rattle.tql_index.specs.Line.{place_of};
-    ghost use Rattle.tql_index.specs.Slots.{entries_in};
+    ghost use Rattle.tql_index.specs.Slots.{entries_in, HasEnds};
     ghost use Rattle.tql_index.specs.Tree.{IsRun};
 
     ghost Value = { List Entry };
 
     ghost view = { λ r. entries_in r.slots.items };
 
-    ghost invariant = { λ r. IsRun (entries_in r.slots.items) (place_of r.end) };
+    ghost invariant = { λ r. IsRun (entries_in r.slots.items) (place_of r.ends.greatest) × HasEnds r.slots.items r.ends.first r.ends.last };
 }
 
 impl<A: Allocator> Run<A> {
@@ -83,9 +113,17 @@ impl<A: Allocator> Run<A> {
     pub fn new(memory: A) -> Run<A>
         ensures { result ≡ [] }
     {
+        let none = Slot {
+            span: Span::all(0),
+            id: 0,
+        };
         Run {
             slots: Vec::new(memory),
-            end: Place::first(),
+            ends: Ends {
+                greatest: Place::first(),
+                first: none,
+                last: none,
+            },
         }
     }
 
@@ -97,7 +135,11 @@ impl<A: Allocator> Run<A> {
         slots.push(slot)?;
         Ok(Run {
             slots,
-            end: slot.span.end(),
+            ends: Ends {
+                greatest: slot.span.end(),
+                first: slot,
+                last: slot,
+            },
         })
     }
 
@@ -127,7 +169,7 @@ impl<A: Allocator> Run<A> {
     pub fn end(&self) -> Place
         ensures { place_of result ≡ greatest_end self.now }
     {
-        self.end
+        self.ends.greatest
     }
 
     // Returns on which side of the run an entry lies, or `Equal` if it lies within.
@@ -135,9 +177,9 @@ impl<A: Allocator> Run<A> {
         requires { 0 < length self.now }
         ensures { IsSide result (entry_of slot) self.now }
     {
-        if slot.compare(self.slots[0]).is_lt() {
+        if slot.compare(self.ends.first).is_lt() {
             Ordering::Less
-        } else if self.slots[self.slots.len() - 1].compare(slot).is_lt() {
+        } else if self.ends.last.compare(slot).is_lt() {
             Ordering::Greater
         } else {
             Ordering::Equal
@@ -152,7 +194,8 @@ impl<A: Allocator> Run<A> {
     {
         let place = place_in(&self.slots, slot);
         self.slots.insert(place, slot)?;
-        self.end = self.end.later(slot.span.end());
+        let greatest = self.ends.greatest.later(slot.span.end());
+        self.ends = ends_of(&self.slots, greatest, slot);
         Ok(())
     }
 
@@ -171,8 +214,8 @@ impl<A: Allocator> Run<A> {
             self.slots.remove(place);
             return Err(refused);
         }
-        self.end = last_end(&self.slots);
-        upper.end = last_end(&upper.slots);
+        self.ends = ends_of(&self.slots, last_end(&self.slots), slot);
+        upper.ends = ends_of(&upper.slots, last_end(&upper.slots), slot);
         Ok(())
     }
 
@@ -185,7 +228,7 @@ impl<A: Allocator> Run<A> {
             return false;
         }
         self.slots.remove(place);
-        self.end = last_end(&self.slots);
+        self.ends = ends_of(&self.slots, last_end(&self.slots), slot);
         true
     }
 
@@ -201,7 +244,7 @@ impl<A: Allocator> Run<A> {
             (found.new.items ≡ found.old.items ++ ids_sharing (points_between from to) self.now) }
         ensures late { IfOk result (λ on. OnFalse on (StartsLate (place_of to) self.now)) }
     {
-        if !from.is_before(self.end) {
+        if !from.is_before(self.ends.greatest) {
             return Ok(true);
         }
         for slot in &self.slots {

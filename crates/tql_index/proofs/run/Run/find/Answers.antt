@@ -16,10 +16,10 @@ pub returns-then-not-is_before-clause-found : goal.returns-then-not-is_before-cl
 returns-then-not-is_before-clause-found g c =
     let x = points_between c.args.from c.args.to in
     let q = λ (e : Entry). share_a_point e.period x in
-    let n : int_lt x.start (place_of c.self.inside.end) ≡ false =
+    let n : int_lt x.start (place_of c.self.inside.ends.greatest) ≡ false =
     grind (arith, ints, c.is_before.ensures, c.if-not-is_before.true) in
-    nothing_here q x.start x.end (place_of c.self.inside.end) c.args.self.now c.args.found.now.items (in_period x)
-    (c.self.invariant.greatest_is ∙ ap greatest_end c.self.view_is) n
+    nothing_here q x.start x.end (place_of c.self.inside.ends.greatest) c.args.self.now c.args.found.now.items (in_period x)
+    (c.self.invariant.0.greatest_is ∙ ap greatest_end c.self.view_is) n
 
 pub loop-slot-preserved : goal.loop-slot-preserved
 loop-slot-preserved g c =
@@ -41,7 +41,7 @@ returns-then-not-is_before-2-clause-found g c =
     (sym c.is_before-in-loop-slot.ensures ∙ c.if-not-is_before-2.true) c.start.ensures in
     let o : IsInOrder (entries_in items) =
     subst (λ (z : List Slot). IsInOrder (entries_in z)) (sym c.deref-slot-items.ensures.value)
-    c.self.invariant.in_order in
+    c.self.invariant.0.in_order in
     searched_late q x.end items c.loop-slot.slot-index c.slot-item.result c.args.found.now.items c.loop-slot.found.items
     ((in_period x).starts_before) o c.loop-slot.invariant c.slot-item.is c.loop-slot-test.true b
     ∙ ap (λ es. c.args.found.now.items ++ ids_of q es) v

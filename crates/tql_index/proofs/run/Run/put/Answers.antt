@@ -3,7 +3,7 @@ use Rattle.std.proofs.Common.{arith, ap, subst, ◌∙◌}
 use Rattle.tql_spec.specs.Bag.{SameBag}
 use Rattle.tql_index.specs.Entry.{Entry}
 use Rattle.tql_index.specs.Line.{place_of}
-use Rattle.tql_index.specs.Slots.{entry_of, entries_in}
+use Rattle.tql_index.specs.Slots.{entry_of, entries_in, HasEnds}
 use Rattle.tql_index.specs.Tree.{IsPlace}
 use Rattle.tql_index.specs.declared.slot.Slot.{Slot}
 use Rattle.tql_index.proofs.Bags.{length_of_one_more}
@@ -20,14 +20,18 @@ invariant_of-self-2 g c =
     let p : IsPlace e (entries_in ss) c.place_in-place.result =
     subst (λ (z : List Slot). IsPlace e (entries_in z) c.place_in-place.result) c.deref.ensures.value
     c.place_in-place.ensures in
-    let s = put_bag ss ts c.place_in-place.result c.args.slot c.in_ok-insert.ensures.items in
-    record {
-      in_order = put_order ss ts c.place_in-place.result c.args.slot c.in_ok-insert.ensures.items
-          p c.self.invariant.in_order;
-      few = omega (arith, length_of_one_more e (entries_in ts) (entries_in ss) s, ap length v, c.requires);
-      greatest_is = c.later-self-inside.ensures ∙ greatest_more e (entries_in ss) (entries_in ts)
-          (place_of c.self.inside.end) (place_of c.end.result) c.self.invariant.greatest_is c.end.ensures s;
-    }
+    let s = put_bag ss ts c.place_in-place.result c.args.slot c.in_ok-insert.ensures.items in (
+      record {
+        in_order = put_order ss ts c.place_in-place.result c.args.slot c.in_ok-insert.ensures.items
+            p c.self.invariant.0.in_order;
+        few = omega (arith, length_of_one_more e (entries_in ts) (entries_in ss) s, ap length v, c.requires);
+        greatest_is = ap place_of c.ends_of-self-inside.ensures.greatest ∙ c.later-greatest.ensures
+            ∙ greatest_more e (entries_in ss) (entries_in ts) (place_of c.self.inside.ends.greatest)
+            (place_of c.end.result) c.self.invariant.0.greatest_is c.end.ensures s;
+      },
+      subst (λ (z : List Slot). HasEnds z c.ends_of-self-inside.result.first c.ends_of-self-inside.result.last) c.deref-2.ensures.value
+          c.ends_of-self-inside.ensures.ends,
+    )
 
 pub returns-clause-added : goal.returns-clause-added
 returns-clause-added g c =

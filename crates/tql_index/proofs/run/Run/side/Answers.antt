@@ -15,7 +15,7 @@ returns-then-is_lt g c =
     let v : entries_in ss ≡ c.args.self.now = c.self.view_is in
     let some : 0 < length ss = omega (arith, c.requires, ap length v, length-map ss entry_of) in
     subst (λ (es : List Entry). IsSide Less e es) v
-    (side_less e ss c.index.result.now c.compare.result c.self.invariant.in_order c.index.ensures some
+    (side_less e ss c.self.inside.ends.first c.compare.result c.self.invariant.0.in_order c.self.invariant.1.first_is some
     c.compare.ensures (sym c.is_lt.ensures ∙ c.if-is_lt.true))
 
 pub returns-then-is_lt-2 : goal.returns-then-is_lt-2
@@ -25,9 +25,8 @@ returns-then-is_lt-2 g c =
     let v : entries_in ss ≡ c.args.self.now = c.self.view_is in
     let some : 0 < length ss = omega (arith, c.requires, ap length v, length-map ss entry_of) in
     subst (λ (es : List Entry). IsSide Greater e es) v
-    (side_greater e ss c.index-else-is_lt.result.now (c.len.result - 1) c.compare-else-is_lt.result
-    c.self.invariant.in_order c.index-else-is_lt.ensures
-    (omega (arith, c.len.ensures, c.self.inside.slots.ok.0, some)) c.compare-else-is_lt.ensures
+    (side_greater e ss c.self.inside.ends.last (length ss - 1) c.compare-else-is_lt.result
+    c.self.invariant.0.in_order c.self.invariant.1.last_is (omega (arith, some)) c.compare-else-is_lt.ensures
     (sym c.is_lt-else-is_lt.ensures ∙ c.if-is_lt-2.true))
 
 pub returns-else-is_lt-2 : goal.returns-else-is_lt-2
@@ -37,8 +36,8 @@ returns-else-is_lt-2 g c =
     let v : entries_in ss ≡ c.args.self.now = c.self.view_is in
     let some : 0 < length ss = omega (arith, c.requires, ap length v, length-map ss entry_of) in
     subst (λ (es : List Entry). IsSide Equal e es) v
-    (side_within e ss c.index.result.now c.index-else-is_lt.result.now (c.len.result - 1) c.compare.result
-    c.compare-else-is_lt.result c.index.ensures c.index-else-is_lt.ensures
-    (omega (arith, c.len.ensures, c.self.inside.slots.ok.0, some)) c.compare.ensures
+    (side_within e ss c.self.inside.ends.first c.self.inside.ends.last (length ss - 1) c.compare.result
+    c.compare-else-is_lt.result c.self.invariant.1.first_is c.self.invariant.1.last_is (omega (arith, some))
+    c.compare.ensures
     (sym c.is_lt.ensures ∙ c.if-is_lt.false) c.compare-else-is_lt.ensures
     (sym c.is_lt-else-is_lt.ensures ∙ c.if-is_lt-2.false))
