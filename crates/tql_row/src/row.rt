@@ -3,7 +3,7 @@
 //! The bytes of a row begin with the number of its columns: one byte if there are fewer than 255, else the byte 255 and
 //! eight bytes, the lowest first. The cells of the columns follow (see `cell`), one after another. A reader skips the
 //! cells before the one that it needs.
-ghost use Rattle.std.specs.Prelude.{◌≡◌, ◌≤◌, ◌<◌, [], IfOk, length, map, slice_index_or};
+ghost use Rattle.std.specs.Prelude.{◌≡◌, ◌≤◌, ◌<◌, ◌^◌, [], IfOk, length, map, slice_index_or};
 ghost use Rattle.tql_spec.specs.Datum.{Null};
 ghost use Rattle.tql_spec.specs.Definition.{cell};
 ghost use Rattle.tql_value.specs.Views.{datum_of_view, datum_of_value};
@@ -118,9 +118,10 @@ impl Row {
         })
     }
 
-    /// Returns the number of columns.
+    /// Returns the number of columns. There is at least one byte for each.
     pub fn width(&self) -> usize
-        ensures { result ≡ length self.now }
+        ensures value { result ≡ length self.now }
+        ensures small { result < 2 ^ 63 }
     {
         width(self.bytes.as_slice())
     }

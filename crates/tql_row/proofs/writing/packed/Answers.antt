@@ -8,7 +8,8 @@ use Rattle.tql_row.proofs.writing.packed.Goals as goal
 pub returns : goal.returns
 returns c =
     let front = front_of_row (length c.args.values.now) in
-    let wide : length (map datum_of_view c.args.values.now) ≡ length c.args.values.now = length-map c.args.values.now datum_of_view in
+    let wide : length (map datum_of_view c.args.values.now) ≡ length c.args.values.now =
+    length-map c.args.values.now datum_of_view in
     record {
       fits = rw wide (first_of (search rules, omega arith));
       written = written_at _ (front_of_row (length (map datum_of_view c.args.values.now))) _ _
