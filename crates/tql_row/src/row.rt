@@ -1,5 +1,5 @@
 //! A row in little memory.
-ghost use Rattle.std.specs.Prelude.{◌≡◌, ◌≤◌, ◌<◌, [], IfOk, length, map, slice_index_or};
+ghost use Rattle.std.specs.Prelude.{◌≡◌, ◌≤◌, ◌<◌, ◌^◌, [], IfOk, length, map, slice_index_or};
 ghost use Rattle.tql_spec.specs.Datum.{Null};
 ghost use Rattle.tql_spec.specs.Definition.{cell};
 ghost use Rattle.tql_value.specs.Views.{datum_of_view, datum_of_value};
@@ -33,7 +33,8 @@ impl Model for Row {
 /// How many cells the row of these bytes has.
 fn width(bytes: &[u8]) -> usize
     requires { IsRow bytes.now }
-    ensures { result ≡ width_of bytes.now }
+    ensures value { result ≡ width_of bytes.now }
+    ensures small { result < 2 ^ 16 }
 {
     u16::from_le_bytes([bytes[0], bytes[1]]) as usize
 }
@@ -100,7 +101,8 @@ impl Row {
 
     /// Returns the number of columns.
     pub fn width(&self) -> usize
-        ensures { result ≡ length self.now }
+        ensures value { result ≡ length self.now }
+        ensures small { result < 2 ^ 16 }
     {
         width(self.bytes.as_slice())
     }
