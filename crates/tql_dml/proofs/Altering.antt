@@ -25,7 +25,6 @@ use Rattle.tql_dml.specs.Alters.{Gives, Alters, added_rows, tuples_in, rows_in, 
 use Rattle.tql_dml.specs.Alters.{coming, gone, inserted, IsVersionOf, AreTyped}
 use Rattle.tql_dml.specs.Cells.{stored_cells, rows_faults}
 use Rattle.tql_expr.specs.Evaluated.{Fails}
-use Rattle.tql_value.specs.Views.{rows_of}
 use Rattle.tql_dml.specs.Parts.{Parts, parts}
 use Rattle.tql_dml.proofs.Fates.{Told, agreed, disagreed, fates_agree}
 use Rattle.tql_dml.proofs.Rows.{Fit, PartsFit, AreRows, parts_fit, stored_faults}
@@ -54,16 +53,16 @@ insert_refused d id js tuples rows e s is f =
 -- rows without a fault are added
 pub insert_adds : (d : TableDef) (id : ℕ) (js : List ℕ) (tuples : List Row) (delta : Delta) → IsDefinition d
     → delta.table ≡ id → delta.removed.items ≡ []
-    → rows_of delta.added.items ≡ map (stored_cells d js) tuples → delta.count ≡ length delta.added.items
-    → None ≡ first (rows_faults d (rows_of delta.added.items))
+    → delta.added.items ≡ map (stored_cells d js) tuples → delta.count ≡ length delta.added.items
+    → None ≡ first (rows_faults d delta.added.items)
     → Gives id [] (λ m. (added_rows d js (Some tuples) m).rows) (added_rows d js (Some tuples)) delta
 insert_adds d id js tuples delta s table removed rows count faults = record {
   table = table;
   removed = removed;
   added = λ m. new_cells d m js tuples ∙ sym rows;
-  count = λ m. count ∙ sym (length-map delta.added.items _) ∙ ap length rows ∙ length-map tuples (stored_cells d js)
+  count = λ m. count ∙ ap length rows ∙ length-map tuples (stored_cells d js)
       ∙ sym (length-map tuples _);
-  sound = λ m. first_of d m js tuples (rows_of delta.added.items) None s rows faults;
+  sound = λ m. first_of d m js tuples delta.added.items None s rows faults;
 }
 
 -- added rows fit the table
@@ -169,7 +168,7 @@ modify_refused d id found x p e s h v f =
 -- rows without a fault are added
 pub modify_gives : (d : TableDef) (id : ℕ) (found : List Version) (x : Modification) (p : Parts) (delta : Delta)
     → IsDefinition d → AreRows d found → parts_of d found x ≡ Some p
-    → delta.table ≡ id → delta.removed.items ≡ p.gone → rows_of delta.added.items ≡ p.come → delta.count ≡ length p.gone
+    → delta.table ≡ id → delta.removed.items ≡ p.gone → delta.added.items ≡ p.come → delta.count ≡ length p.gone
     → None ≡ first (rows_faults d p.come)
     → Gives id (gone d x found) (λ m. coming (fates d found x m)) (modified d found x) delta
 modify_gives d id found x p delta s h v table removed rows count faults = record {

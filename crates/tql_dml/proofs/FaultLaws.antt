@@ -1,14 +1,14 @@
 -- The faults of new rows: those of the stored cells, and the first of them.
 use Rattle.std.specs.Prelude.{◌≡◌, refl, ℕ, zero, suc, ◌+◌, ◌<◌, ◌≤◌, ◌≢◌, ℤ, pos, Bool, true, false, not, ◌&&◌, ◌||◌}
-use Rattle.std.specs.Prelude.{nat_lt, List, [], ◌∷◌, ◌++◌, map, length, insert, remove, slice_index_or, zip, Option}
-use Rattle.std.specs.Prelude.{Some, None, Vec, if◌then◌else◌}
-use Rattle.std.specs.List.{list_any, flat_map}
+use Rattle.std.specs.Prelude.{nat_lt, List, [], ◌∷◌, ◌++◌, map, length, insert, remove, slice_index_or, Option}
+use Rattle.std.specs.Prelude.{Some, None, min, if◌then◌else◌}
+use Rattle.std.specs.List.{flat_map}
 use Rattle.std.proofs.Common.{sym, ap, ◌∙◌, arith, append_assoc, append-nil, drop, get_or}
-use Rattle.std.proofs.lemmas.List.{at_drop_more, drop_all}
+use Rattle.std.proofs.lemmas.List.{at_drop_more, drop_all, drop_more, length-drop}
 use Rattle.std.proofs.lemmas.List.Edits.{length-insert, length-remove}
 use borrow.Author.Tests.{ltb-true, ltb-false}
 use Rattle.tql_spec.specs.Words.{listed}
-use Rattle.tql_spec.specs.Datum.{Row, Moment, is_null}
+use Rattle.tql_spec.specs.Datum.{Row, Null, Moment, is_null}
 use Rattle.tql_spec.specs.Refusal.{Refusal, ValueOutOfRange, NullNotAllowed, PeriodNotRising, first, fault_if}
 use Rattle.tql_spec.specs.Period.{rises}
 use Rattle.tql_spec.specs.Definition.{Column, System, Application, TableDef, Stamped, with_generated, shown, cell}
@@ -20,8 +20,6 @@ use Rattle.tql_catalog.specs.Defined.{IsDefinition}
 use Rattle.tql_catalog.specs.Rows.{has_system}
 use Rattle.tql_catalog.proofs.Definitions.{has_its_system}
 use Rattle.tql_catalog.proofs.Kept.{kept, Within, within, two_less}
-use Rattle.tql_value.specs.Views.{datum_of_value, row_of}
-use Rattle.tql_value.specs.declared.value.Value.{Value}
 use Rattle.tql_dml.specs.Cells.{no_column, columns_at, has_long_text, lacks_a_value, falls, falls_by, unstamped}
 use Rattle.tql_dml.specs.Cells.{faults_by}
 use Rattle.tql_dml.proofs.CheckLaws.{checks_law}
@@ -195,24 +193,58 @@ found_all f g xs i found past l =
     sym (first_listed found) ∙ ap first (sym (append-nil (listed found)))
     ∙ ap (λ ys. first (listed found ++ flat_map f (map g ys))) (sym (drop_all i xs past)) ∙ l
 
--- ---- cells with the numbers of their columns
+-- ---- cells by their indexes, and the numbers of their columns
 
-pub long_by_number : (cs : List Column) (is : List ℕ) (values : List Value)
-    → list_any (λ (p : ℕ × Value). is_too_long (slice_index_or cs p.0 no_column).limit (datum_of_value p.1))
-    (zip is values) ≡ has_long_text (columns_at cs is) (row_of values)
-long_by_number cs [] values = refl
-long_by_number cs (i ∷ is) [] = refl
-long_by_number cs (i ∷ is) (v ∷ vs) =
-    ap (λ b. is_too_long (slice_index_or cs i no_column).limit (datum_of_value v) || b) (long_by_number cs is vs)
+-- whether a text is too long, from an index on
+abbrev pub long_from : List Column → List ℕ → Row → ℕ → Bool
+long_from cs is row p = has_long_text (columns_at cs (drop p is)) (drop p row)
 
-pub lacking_by_number : (cs : List Column) (is : List ℕ) (values : List Value)
-    → list_any (λ (p : ℕ × Value). (slice_index_or cs p.0 no_column).required && is_null (datum_of_value p.1))
-    (zip is values) ≡ lacks_a_value (columns_at cs is) (row_of values)
-lacking_by_number cs [] values = refl
-lacking_by_number cs (i ∷ is) [] = refl
-lacking_by_number cs (i ∷ is) (v ∷ vs) =
-    ap (λ b. ((slice_index_or cs i no_column).required && is_null (datum_of_value v)) || b) (lacking_by_number cs is vs)
+-- that of the cell at the index, or a later one
+pub one_long : (cs : List Column) (is : List ℕ) (row : Row) (p : ℕ) → p < length is → p < length row
+    → long_from cs is row p
+    ≡ (is_too_long (slice_index_or cs (slice_index_or is p 0) no_column).limit (cell row p)
+    || long_from cs is row (p + 1))
+one_long cs is row p l k = λ j. has_long_text (columns_at cs (drop_more is p 0 l j)) (drop_more row p Null k j)
 
--- the data of a row
-abbrev pub cells_in : {A : Type 0} → Vec Value A → Row
-cells_in row = row_of row.items
+none_long : (cs : List Column) (is : List ℕ) (row : Row) → min (length is) (length row) ≤ 0
+    → has_long_text (columns_at cs is) row ≡ false
+none_long cs [] row h = refl
+none_long cs (i ∷ is) [] h = refl
+none_long cs (i ∷ is) (v ∷ vs) h = absurd (omega arith)
+
+-- no cell or no column is left
+pub past_long : (cs : List Column) (is : List ℕ) (row : Row) (p : ℕ) → min (length is) (length row) ≤ p
+    → long_from cs is row p ≡ false
+past_long cs is row p past =
+    none_long cs (drop p is) (drop p row) (omega (arith, length-drop p is, length-drop p row))
+
+-- whether a value is lacking, from an index on
+abbrev pub lacking_from : List Column → List ℕ → Row → ℕ → Bool
+lacking_from cs is row p = lacks_a_value (columns_at cs (drop p is)) (drop p row)
+
+-- that of the cell at the index, or a later one
+pub one_lacking : (cs : List Column) (is : List ℕ) (row : Row) (p : ℕ) → p < length is → p < length row
+    → lacking_from cs is row p
+    ≡ (((slice_index_or cs (slice_index_or is p 0) no_column).required && is_null (cell row p))
+    || lacking_from cs is row (p + 1))
+one_lacking cs is row p l k = λ j. lacks_a_value (columns_at cs (drop_more is p 0 l j)) (drop_more row p Null k j)
+
+none_lacking : (cs : List Column) (is : List ℕ) (row : Row) → min (length is) (length row) ≤ 0
+    → lacks_a_value (columns_at cs is) row ≡ false
+none_lacking cs [] row h = refl
+none_lacking cs (i ∷ is) [] h = refl
+none_lacking cs (i ∷ is) (v ∷ vs) h = absurd (omega arith)
+
+-- no cell or no column is left
+pub past_lacking : (cs : List Column) (is : List ℕ) (row : Row) (p : ℕ) → min (length is) (length row) ≤ p
+    → lacking_from cs is row p ≡ false
+past_lacking cs is row p past =
+    none_lacking cs (drop p is) (drop p row) (omega (arith, length-drop p is, length-drop p row))
+
+-- a row as it is
+abbrev pub itself : Row → Row
+itself row = row
+
+pub as_they_are : (rows : List Row) → map itself rows ≡ rows
+as_they_are [] = refl
+as_they_are (row ∷ rows) = ap {B = List Row} (λ rs. row ∷ rs) (as_they_are rows)

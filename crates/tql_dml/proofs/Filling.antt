@@ -1,12 +1,12 @@
 -- The cells of a new row: their number, their values, and rows whose values are given in order.
 use Rattle.std.specs.Prelude.{◌≡◌, refl, ℕ, ◌<◌, Bool, true, false, not, ◌&&◌, ◌||◌, ◌==◌, nat_lt, List, [], ◌∷◌, map}
-use Rattle.std.specs.Prelude.{filter, length, replicate, slice_set, slice_index_or, All, Vec, nat_eq, Option}
+use Rattle.std.specs.Prelude.{filter, length, replicate, slice_set, slice_index_or, All, Option}
 use Rattle.std.specs.Prelude.{Some, None}
 use Rattle.std.specs.List.{list_all, range_with_len}
 use Rattle.std.proofs.Common.{sym, ap, subst, ◌∙◌, arith}
 use Rattle.std.proofs.lemmas.List.{length-set, length-map, length-replicate, get_or-set_same, get_or-set_other}
 use Rattle.std.proofs.lemmas.List.Elements.{All-head, All-tail, All-set, All-replicate, All-map}
-use borrow.Author.Tests.{ltb-true, eqb-false, eqb-true}
+use borrow.Author.Tests.{ltb-true, eqb-false}
 use Rattle.tql_spec.specs.Datum.{Null, Row}
 use Rattle.tql_spec.specs.Definition.{TableDef, System, without_generated, cell}
 use Rattle.tql_spec.specs.Change.{filled, new_row}
@@ -17,9 +17,7 @@ use Rattle.tql_catalog.proofs.Definitions.{has_its_system}
 use Rattle.tql_catalog.specs.Rows.{has_system, numbers_repeat, are_assignable}
 use Rattle.tql_value.specs.Points.{IsPrintable}
 use Rattle.tql_expr.proofs.Printing.{printable_cell}
-use Rattle.tql_value.specs.Views.{datum_of_value, row_of, rows_of}
-use Rattle.tql_value.specs.declared.value.Value.{Value}
-use Rattle.tql_dml.specs.Cells.{stored_cells}
+use Rattle.tql_dml.specs.Cells.{stored_cells, StoresAsGiven}
 use Rattle.tql_catalog.proofs.Kept.{kept, kept_law, and_left, and_right, not_is}
 
 pub length-filled : (row : Row) (js : List ℕ) (vs : Row) → length (filled row js vs) ≡ length row
@@ -123,15 +121,7 @@ stored_prints d js vs s h =
     (All-map IsPrintable (cell row) (all_assignable d)
     (λ k i l. printable_cell row (slice_index_or (all_assignable d) k i) printable))
 
--- new rows with a value for each stored column, in order
-pub usual_rows : {A : Type 0} (d : TableDef) (js : List ℕ) (tuples : List (Vec Value A)) → IsDefinition d
-    → js ≡ all_assignable d → are_assignable d js ≡ true
-    → list_all (λ (t : Vec Value A). nat_eq (length t.items) (length js)) tuples ≡ true
-    → rows_of tuples ≡ map (stored_cells d js) (rows_of tuples)
-usual_rows d js [] s e a h = refl
-usual_rows {A} d js (t ∷ ts) s e a h =
-    let wide : length t.items ≡ length js =
-    eqb-true (length t.items) (length js) (and_left (nat_eq (length t.items) (length js)) _ h) in
-    let here : row_of t.items ≡ stored_cells d js (row_of t.items) =
-    sym (usual_row d js (row_of t.items) s e a (length-map t.items datum_of_value ∙ wide)) in
-    λ i. here i ∷ usual_rows d js ts s e a (and_right (nat_eq (length t.items) (length js)) _ h) i
+-- values for each stored column, in order
+pub given_as_stored : (d : TableDef) (js : List ℕ) → IsDefinition d → js ≡ all_assignable d
+    → are_assignable d js ≡ true → StoresAsGiven d js
+given_as_stored d js s e a = λ values wide. usual_row d js values s e a wide

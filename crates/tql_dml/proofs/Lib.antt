@@ -17,4 +17,5 @@ pub mod Brief
 pub mod Modified
 pub mod PointChanges
 pub mod Failing
+pub mod TupleRows
 pub mod PointRefusals

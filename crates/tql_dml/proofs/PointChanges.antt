@@ -28,7 +28,6 @@ use Rattle.tql_store.specs.Changes.{starting, rows_after}
 use Rattle.tql_store.specs.declared.store.Delta.{Delta}
 use Rattle.tql_versions.specs.Readings.{version_shown as version_of}
 use Rattle.tql_versions.specs.declared.version.Version.{Version}
-use Rattle.tql_value.specs.Views.{rows_of}
 use Rattle.tql_value.specs.declared.refusal.Refusal.{Refusal}
 use Rattle.tql_dml.specs.Alters.{Gives, Alters, gone, coming, fates, modified, inserted, tuples_in, rows_in}
 use Rattle.tql_dml.specs.Alters.{portion_in, work_in, conds_in}
@@ -93,11 +92,11 @@ modify_at_points d id found x delta g scope apart defs p m others h =
     let rows : List Stamped = rows_in found in
     let k = fates_there no_order by_parts d m (portion_in x) (work_in x) (conds_in x) rows (fates d found x m) refl
     (g.sound m) in
-    let come : map (λ (r : Stamped). r.cells) (new_rows k.0) ≡ rows_of delta.added.items =
+    let come : map (λ (r : Stamped). r.cells) (new_rows k.0) ≡ delta.added.items =
     ap (λ o. map (λ (r : Stamped). r.cells) (coming o)) (sym k.1) ∙ g.added m in
     let after : SameBag (after_fates rows k.0)
-    (rows_after m (touches d (portion_in x) (conds_in x)) (rows_of delta.added.items) rows) =
-    made_after no_order by_parts d m (portion_in x) (work_in x) (conds_in x) rows k.0 (rows_of delta.added.items) k.1
+    (rows_after m (touches d (portion_in x) (conds_in x)) delta.added.items rows) =
+    made_after no_order by_parts d m (portion_in x) (work_in x) (conds_in x) rows k.0 delta.added.items k.1
     come in
     let made : (modified d found x m).rows ≡ after_fates rows k.0 = modified_rows d rows (fates d found x m) k.0 k.1 in
     let stays : rows_in (versions_left found delta) ≡ filter
@@ -117,7 +116,7 @@ modify_at_points d id found x delta g scope apart defs p m others h =
         totals = λ w.
             ap (λ xs. sum_by w (slice d p (map (shown d) (xs ++ rows_added delta m)))) stays
             ∙ sym (slice_same defs d h.table p (after_fates rows k.0)
-            (rows_after m (touches d (portion_in x) (conds_in x)) (rows_of delta.added.items) rows) after w)
+            (rows_after m (touches d (portion_in x) (conds_in x)) delta.added.items rows) after w)
             ∙ sym (ap (λ xs. sum_by w (slice d p (map (shown d) xs))) made)
             ∙ (reduced.rows none).totals w;
       };
@@ -154,7 +153,7 @@ inserted_rows d m rows columns (Some tuples) added e f = (
 pub insert_at_points : (d : TableDef) (id : ℕ) (x : Insertion) (delta : Delta)
     → Gives id [] (λ m. (inserted d x m).rows) (inserted d x) delta → InsertsAtPoints d x delta
 insert_at_points d id x delta g scope defs p m rows others h =
-    let k = inserted_rows d m rows x.columns.items (tuples_in x) (rows_of delta.added.items) (g.sound m) (g.added m) in
+    let k = inserted_rows d m rows x.columns.items (tuples_in x) delta.added.items (g.sound m) (g.added m) in
     let reduced = insertions_reduce defs d p m rows others x.columns.items (exprs_in x) h scope in
     record {
       sound = reduced.taken k.1;

@@ -21,7 +21,6 @@ use Rattle.tql_catalog.specs.Rows.{has_system, stored_width}
 use Rattle.tql_catalog.proofs.Definitions.{has_its_system}
 use Rattle.tql_versions.specs.Readings.{version_shown as version_of}
 use Rattle.tql_versions.specs.declared.version.Version.{Version}
-use Rattle.tql_value.specs.Views.{datum_of_value}
 use Rattle.tql_dml.specs.Cells.{faults_by, stored_faults as faults_of, rows_faults}
 use Rattle.tql_dml.specs.Parts.{Parts, before, touched_part, part_where, part_of, parts}
 use Rattle.tql_dml.proofs.FaultLaws.{plain_faults}
@@ -113,7 +112,7 @@ where_fits d (Some false) o h = All-nil (λ (cells : Row). length cells ≡ stor
 
 -- versions of the table's rows
 abbrev pub AreRows : TableDef → List Version → Type 0
-AreRows d found = All (λ (v : Version). length v.row.now ≡ stored_width d) found
+AreRows d found = All (λ (v : Version). length v.kept.now.row ≡ stored_width d) found
 
 pub parts_fit : (d : TableDef) (portion : Option Period) (work : Work) (conds : List Cond) (found : List Version)
     → IsDefinition d → AreRows d found → PartsFit d (parts d portion work conds found)
@@ -121,12 +120,11 @@ parts_fit d portion work conds [] s h = All-nil (λ (cells : Row). length cells 
 parts_fit d portion work conds (v ∷ vs) s h =
     let row : Row = shown d (version_of v).row in
     let wide : length row ≡ length d.columns =
-    shown_width d (version_of v).row s (length-map v.row.now datum_of_value
-    ∙ All-head (λ (w : Version). length w.row.now ≡ stored_width d) v vs h) in
+    shown_width d (version_of v).row s (All-head (λ (w : Version). length w.kept.now.row ≡ stored_width d) v vs h) in
     both_fit d (part_of d portion work conds v.id row) (parts d portion work conds vs)
     (where_fits d (is_touched d portion conds row) (touched_part d portion work v.id row)
     (touched_fits d portion work v.id row s wide))
-    (parts_fit d portion work conds vs s (All-tail (λ (w : Version). length w.row.now ≡ stored_width d) v vs h))
+    (parts_fit d portion work conds vs s (All-tail (λ (w : Version). length w.kept.now.row ≡ stored_width d) v vs h))
 
 -- ---- their faults
 

@@ -150,7 +150,7 @@ shares d portion conds row e = by_point (share_a_point (period_of d row) portion
 has_period : (d : TableDef) (v : Version) → IsVersionOf d v → HasPeriod d (shown d (version_of v).row)
 has_period d v f a q =
     let rising : RisesBy (Some a) (shown d (version_of v).row) =
-    subst (λ o. RisesBy o (shown d (version_of v).row)) q (f.cells.rising v.start high) in
+    subst (λ o. RisesBy o (shown d (version_of v).row)) q (f.cells.rising v.kept.now.start high) in
     (rising.start, rising.end)
 
 version_prints : (d : TableDef) (portion : Option Period) (t : Terms) (w : code.Work) (conds : List Cond)
@@ -166,7 +166,7 @@ version_prints d portion t w conds v f k =
     row = shown d (version_of v).row
 
     prints : All IsPrintable row
-    prints = generated_prints d.system (version_of v).row.cells v.start high f.cells.printable f.start high_is_moment
+    prints = generated_prints d.system (version_of v).row.cells v.kept.now.start high f.cells.printable f.start high_is_moment
 
     by_portion : (p : Option Period)
         → (IsTrue (is_some p) → IsTypedDefinition d × IsTypedWork d p (work_of t w) × AreOfKinds (kinds_of d) row)

@@ -26,14 +26,13 @@ use Rattle.tql_value.specs.Points.{IsMoment}
 use Rattle.tql_value.specs.Refusals.{refusal_of}
 use Rattle.tql_value.specs.declared.refusal.Refusal.{Refusal}
 use Rattle.tql_value.specs.declared.refusal.Refusal.TheVariants.{OutOfMemory}
-use Rattle.tql_value.specs.Views.{rows_of}
 
 -- the effect of a change without a fault: the removed versions, the added rows and their count, at every moment
 pub record Gives (id : ℕ) (gone : List ℕ) (new : ℤ → List Stamped) (outcome : ℤ
     → Outcome) (delta : Delta) : Type 0 where
   pub table : delta.table ≡ id
   pub removed : delta.removed.items ≡ gone
-  pub added : (m : ℤ) → map (λ (r : Stamped). r.cells) (new m) ≡ rows_of delta.added.items
+  pub added : (m : ℤ) → map (λ (r : Stamped). r.cells) (new m) ≡ delta.added.items
   pub count : (m : ℤ) → delta.count ≡ (outcome m).count
   pub sound : (m : ℤ) → first (outcome m).faults ≡ None
 
@@ -101,7 +100,7 @@ gone d x found = map (λ (v : Version). v.id)
 -- a version of the table's rows: it has the stored cells, each of which has a text, and begins at a moment
 pub record IsVersionOf (d : TableDef) (v : Version) : Type 0 where
   pub cells : IsRowOf d (version_of v).row.cells
-  pub start : IsMoment v.start
+  pub start : IsMoment v.kept.now.start
 
 -- the values of the rows, and the values that the change assigns, have their columns' kinds; a change of a portion
 -- assigns none to the columns of the period

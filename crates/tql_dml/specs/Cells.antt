@@ -1,6 +1,6 @@
 -- The cells of new rows, and their faults.
-use Rattle.std.specs.Prelude.{ℕ, Bool, false, not, ◌&&◌, ◌||◌, List, [], ◌∷◌, ◌++◌, map, slice_index_or, pos, int_lt}
-use Rattle.std.specs.Prelude.{Option, Some, None}
+use Rattle.std.specs.Prelude.{◌≡◌, ℕ, Bool, false, not, ◌&&◌, ◌||◌, List, [], ◌∷◌, ◌++◌, map, slice_index_or, pos, int_lt}
+use Rattle.std.specs.Prelude.{length, Option, Some, None}
 use Rattle.std.specs.List.{flat_map}
 use Rattle.tql_spec.specs.Calendar.{high}
 use Rattle.tql_spec.specs.Datum.{Datum, Row, Ints, is_null}
@@ -9,6 +9,8 @@ use Rattle.tql_spec.specs.Definition.{TableDef, Column, Application, without_gen
 use Rattle.tql_spec.specs.Expression.{Cond, judge}
 use Rattle.tql_spec.specs.Change.{is_too_long, cell_faults, check_fault, new_row}
 use Rattle.tql_spec.specs.Binding.{all_assignable}
+use Rattle.tql_value.specs.Views.{datum_of_view}
+use Rattle.tql_value.specs.declared.value.View.{View}
 
 -- the column to read if there is none: it allows every value
 abbrev pub no_column : Column
@@ -18,6 +20,10 @@ no_column = record { name = []; kind = Ints; limit = None; required = false }
 abbrev pub columns_at : List Column → List ℕ → List Column
 columns_at cs is = map (λ i. slice_index_or cs i no_column) is
 
+-- the data of views
+abbrev pub data_of : List View → Row
+data_of views = map datum_of_view views
+
 -- the stored columns
 abbrev pub stored_columns : TableDef → List Column
 stored_columns d = columns_at d.columns (all_assignable d)
@@ -25,6 +31,10 @@ stored_columns d = columns_at d.columns (all_assignable d)
 -- the stored cells of the new row with these values in these columns
 abbrev pub stored_cells : TableDef → List ℕ → Row → Row
 stored_cells d columns values = without_generated d.system (new_row d columns values)
+
+-- values for these columns, in this order, already are the stored cells
+abbrev pub StoresAsGiven : TableDef → List ℕ → Type 0
+StoresAsGiven d columns = (values : Row) → length values ≡ length columns → stored_cells d columns values ≡ values
 
 -- whether some text is longer than its column allows
 abbrev pub has_long_text : List Column → Row → Bool

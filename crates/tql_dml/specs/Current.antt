@@ -10,8 +10,7 @@ use Rattle.tql_versions.specs.declared.version.Version.{Version}
 abbrev pub shown_as : ℕ → Kept → Version
 shown_as id k = record {
   id = id;
-  row = record { ref_ptr = (0, 0); now = k.row.items };
-  start = k.start;
+  kept = record { ref_ptr = (0, 0); now = k };
   end = k.end;
 }
 

@@ -8,7 +8,6 @@ use Rattle.tql_spec.specs.Change.{Work, made_of, is_touched, pieces}
 use Rattle.tql_spec.specs.Period.{Period}
 use Rattle.tql_versions.specs.Readings.{version_shown as version_of}
 use Rattle.tql_versions.specs.declared.version.Version.{Version}
-use Rattle.tql_value.specs.Views.{rows_of}
 use Rattle.tql_dml.specs.declared.modification.Changed.{Changed}
 
 -- the ids of removed versions, and the stored cells of added rows
@@ -54,4 +53,4 @@ parts d portion work conds (v ∷ vs) =
 
 -- the effect so far
 abbrev pub parts_in : Changed → Parts
-parts_in c = record { gone = c.removed.items; come = rows_of c.added.items }
+parts_in c = record { gone = c.removed.items; come = c.added.items }

@@ -18,12 +18,11 @@ use Rattle.tql_bound.specs.declared.change.Modification.{Modification}
 use Rattle.tql_store.specs.Changes.{starting}
 use Rattle.tql_store.specs.declared.store.Delta.{Delta}
 use Rattle.tql_versions.specs.declared.version.Version.{Version}
-use Rattle.tql_value.specs.Views.{rows_of}
 use Rattle.tql_dml.specs.Alters.{rows_in, portion_in, work_in, conds_in}
 
 -- the rows that a change adds at a moment
 abbrev pub rows_added : Delta → ℤ → List Stamped
-rows_added delta m = map (starting m) (rows_of delta.added.items)
+rows_added delta m = map (starting m) delta.added.items
 
 -- the versions that a change does not remove
 abbrev pub versions_left : List Version → Delta → List Version

@@ -8,49 +8,49 @@ ghost use Rattle.tql_expr.specs.Meaning.{HasExpr};
 ghost use Rattle.tql_value.specs.declared.refusal.Refusal.TheVariants.{OutOfMemory};
 ghost use Rattle.tql_expr.specs.Evaluated.{Evaluated};
 ghost use Rattle.tql_expr.specs.Shown.{shown_by};
-ghost use Rattle.tql_value.specs.Views.{row_of};
+ghost use Rattle.tql_dml.specs.Cells.{data_of};
 ghost use Rattle.tql_dml.specs.Cutting.{stored_of};
 
+use crate::draft::{Draft, packed, put};
 use crate::periods::put_period;
-use crate::spread::{drop_generated, put};
+use smallvec::SmallVec;
 use tql_bound::change::Assignment;
 use tql_catalog::table_def::TableDef;
 use tql_expr::columns::Columns;
+use tql_expr::row::Row;
 use tql_expr::stored::StoredRow;
 use tql_expr::terms::Terms;
-use tql_expr::values::value_on;
 use tql_memory::Memory;
 use tql_period::period::Period;
 use tql_value::refusal::Refusal;
-use tql_value::value::Value;
+use tql_value::value::View;
 
-/// Returns copies of all values of a row. The only error is a refused allocation.
-fn copied(memory: Memory, row: &StoredRow<'_>) -> Result<Vec<Value, Memory>, Refusal>
-    ensures row { IfOk result (λ cells. row_of cells.items ≡ shown_by row.now) }
+/// Returns all values of a row, for reading. The only error is a refused allocation.
+fn copied<'a>(memory: Memory, row: &'a StoredRow<'_>) -> Result<Draft<'a>, Refusal>
+    ensures row { IfOk result (λ cells. data_of cells.items ≡ shown_by row.now) }
     ensures memory { IfErr result (λ e. e ≡ OutOfMemory) }
 {
     let width = row.width();
-    let mut cells = Vec::with_capacity(memory, width)?;
+    let mut cells = SmallVec::with_capacity(memory, width)?;
     for place in 0..width {
-        cells.push(row.column(place).to_value(memory)?)?;
+        cells.push(row.column(place))?;
     }
     Ok(cells)
 }
 
 /// Sets each assigned column to its value, which is computed on the old row.
-fn assign(
-    memory: Memory,
-    terms: &Terms,
+fn assign<'a>(
+    terms: &'a Terms,
     sets: &[Assignment],
-    old: &StoredRow<'_>,
-    cells: &mut [Value],
+    old: &'a StoredRow<'_>,
+    cells: &mut [View<'a>],
 ) -> Result<(), Refusal>
     requires { All (λ a. HasExpr terms.now a.value) sets.now }
-    ensures { Evaluated (λ _. row_of cells.new)
-        (assigned (shown_by old.now) (row_of cells.old) (map (assignment_of terms.now) sets.now)) result }
+    ensures { Evaluated (λ _. data_of cells.new)
+        (assigned (shown_by old.now) (data_of cells.old) (map (assignment_of terms.now) sets.now)) result }
 {
     for set in sets {
-        let value = value_on(memory, terms, set.value, old)?;
+        let value = terms.eval(set.value, old)?;
         put(cells, set.column, value);
     }
     Ok(())
@@ -58,25 +58,24 @@ fn assign(
 
 /// Returns the stored cells of the new row of an UPDATE. Each assigned column has its value, which is computed on the
 /// old row. With a `part`, the new row's application period is that part.
-pub(crate) fn changed_row(
+pub(crate) fn changed_row<'a>(
     memory: Memory,
-    terms: &Terms,
+    terms: &'a Terms,
     definition: &TableDef,
     sets: &[Assignment],
-    old: &StoredRow<'_>,
+    old: &'a StoredRow<'_>,
     part: Option<Period>,
-) -> Result<Vec<Value, Memory>, Refusal>
+) -> Result<Row, Refusal>
     requires { All (λ a. HasExpr terms.now a.value) sets.now }
-    ensures { Evaluated (λ cells. row_of cells.items) (stored_of definition.now (option_map points_of part)
+    ensures { Evaluated (λ row. row) (stored_of definition.now (option_map points_of part)
         (assigned (shown_by old.now) (shown_by old.now) (map (assignment_of terms.now) sets.now))) result }
 {
     let mut cells = copied(memory, old)?;
-    assign(memory, terms, sets, old, &mut cells)?;
+    assign(terms, sets, old, cells.as_mut_slice())?;
     if let Some(part) = part {
-        put_period(definition, part, &mut cells);
+        put_period(definition, part, cells.as_mut_slice());
     }
-    drop_generated(&mut cells, definition.system());
-    Ok(cells)
+    packed(memory, cells, definition.system())
 }
 
 /// Returns the stored cells of a row with its old values, for a part of its application period. The only error is a
@@ -86,13 +85,12 @@ pub(crate) fn left_row(
     definition: &TableDef,
     row: &StoredRow<'_>,
     part: Period,
-) -> Result<Vec<Value, Memory>, Refusal>
-    ensures row { IfOk result (λ cells. row_of cells.items
+) -> Result<Row, Refusal>
+    ensures row { IfOk result (λ left. left
         ≡ without_generated definition.now.system (with_period definition.now (points_of part) (shown_by row.now))) }
     ensures memory { IfErr result (λ e. e ≡ OutOfMemory) }
 {
     let mut cells = copied(memory, row)?;
-    put_period(definition, part, &mut cells);
-    drop_generated(&mut cells, definition.system());
-    Ok(cells)
+    put_period(definition, part, cells.as_mut_slice());
+    packed(memory, cells, definition.system())
 }

@@ -6,7 +6,7 @@ ghost use Rattle.tql_catalog.specs.Definitions.{checks_of};
 ghost use Rattle.tql_expr.specs.Evaluated.{Evaluated};
 ghost use Rattle.tql_expr.specs.Meaning.{HasExpr};
 ghost use Rattle.tql_expr.specs.Shown.{shown_by};
-ghost use Rattle.tql_value.specs.Views.{row_of, rows_of};
+ghost use Rattle.tql_value.specs.Views.{rows_of};
 ghost use Rattle.tql_dml.specs.Alters.{conds_in, portion_in, tuples_in, work_in};
 ghost use Rattle.tql_dml.specs.Cells.{falls_by, stored_cells, unstamped};
 ghost use Rattle.tql_dml.specs.Failing as spec;
@@ -15,13 +15,13 @@ ghost use Rattle.tql_dml.specs.Parts.{Parts, parts};
 use crate::faults::{falls, is_lacking_at, is_too_long_at};
 use crate::modification::changes;
 use crate::spread::new_rows;
-use crate::values::tuples_of;
+use crate::values::insertion_rows;
 use tql_bound::change::{Insertion, Modification};
 use tql_catalog::catalog::Table;
 use tql_catalog::constraint::Checks;
 use tql_catalog::table_def::TableDef;
 use tql_expr::columns::Columns;
-use tql_expr::row::EmptyRow;
+use tql_expr::row::{EmptyRow, Row};
 use tql_expr::stored::StoredRow;
 use tql_expr::terms::{ExprId, Terms};
 use tql_memory::Memory;
@@ -61,11 +61,11 @@ pub struct ValueFailure {
 }
 
 /// Returns a new row with generated columns. No test reads these, so their moments are arbitrary.
-fn new_row<'a>(definition: &TableDef, cells: &'a [Value]) -> StoredRow<'a>
-    ensures { shown_by result ≡ unstamped definition.now (row_of cells.now) }
+fn new_row<'a>(definition: &TableDef, row: &'a Row) -> StoredRow<'a>
+    ensures { shown_by result ≡ unstamped definition.now row.now }
 {
     StoredRow {
-        cells,
+        row,
         system: definition.generated(),
         start: 0,
         end: HIGH,
@@ -74,25 +74,31 @@ fn new_row<'a>(definition: &TableDef, cells: &'a [Value]) -> StoredRow<'a>
 
 /// Whether a cell is a text longer than its column allows.
 #[tactic(auto, using(crate::proofs::Failing::cell_at))]
-fn is_long_cell(definition: &TableDef, cells: &[Value], number: usize) -> bool
+fn is_long_cell(definition: &TableDef, row: &Row, number: usize) -> bool
     ensures { result ≡ spec.is_long_cell definition.now.columns (slice_get (all_assignable definition.now) number)
-        (slice_get (row_of cells.now) number) }
+        (slice_get row.now number) }
 {
-    match (definition.assignable().get(number), cells.get(number)) {
-        (Some(column), Some(value)) => is_too_long_at(definition.columns(), *column, value),
-        _ => false,
+    if row.width() <= number {
+        return false;
+    }
+    match definition.assignable().get(number) {
+        Some(column) => is_too_long_at(definition.columns(), *column, row, number),
+        None => false,
     }
 }
 
 /// Whether a cell is NULL in a column that is NOT NULL.
 #[tactic(auto, using(crate::proofs::Failing::cell_at))]
-fn is_lacking_cell(definition: &TableDef, cells: &[Value], number: usize) -> bool
+fn is_lacking_cell(definition: &TableDef, row: &Row, number: usize) -> bool
     ensures { result ≡ spec.is_lacking_cell definition.now.columns (slice_get (all_assignable definition.now) number)
-        (slice_get (row_of cells.now) number) }
+        (slice_get row.now number) }
 {
-    match (definition.assignable().get(number), cells.get(number)) {
-        (Some(column), Some(value)) => is_lacking_at(definition.columns(), *column, value),
-        _ => false,
+    if row.width() <= number {
+        return false;
+    }
+    match definition.assignable().get(number) {
+        Some(column) => is_lacking_at(definition.columns(), *column, row, number),
+        None => false,
     }
 }
 
@@ -129,17 +135,17 @@ fn is_check_false(checks: &Checks, number: usize, row: &StoredRow<'_>) -> bool
 }
 
 /// Whether a row fails for this reason.
-fn fails(definition: &TableDef, cells: &[Value], failed: Failed) -> bool
-    ensures { result ≡ spec.fails definition.now (row_of cells.now) failed }
+fn fails(definition: &TableDef, row: &Row, failed: Failed) -> bool
+    ensures { result ≡ spec.fails definition.now row.now failed }
 {
-    let row = new_row(definition, cells);
+    let shown = new_row(definition, row);
     let checks = definition.checks();
     match failed {
-        Failed::LongText(number) => is_long_cell(definition, cells, number),
-        Failed::Null(number) => is_lacking_cell(definition, cells, number),
-        Failed::Period => has_fallen(definition, &row),
-        Failed::CheckRange(number) => is_check_out_of_range(checks, number, &row),
-        Failed::Check(number) => is_check_false(checks, number, &row),
+        Failed::LongText(number) => is_long_cell(definition, row, number),
+        Failed::Null(number) => is_lacking_cell(definition, row, number),
+        Failed::Period => has_fallen(definition, &shown),
+        Failed::CheckRange(number) => is_check_out_of_range(checks, number, &shown),
+        Failed::Check(number) => is_check_false(checks, number, &shown),
     }
 }
 
@@ -162,10 +168,10 @@ fn by_check(refusal: Refusal, number: usize) -> Option<Failed> {
 }
 
 /// Returns the first cell for which a row fails with this refusal.
-fn failed_cell(definition: &TableDef, cells: &[Value], refusal: Refusal) -> Option<Failed> {
-    for number in 0..cells.len() {
+fn failed_cell(definition: &TableDef, row: &Row, refusal: Refusal) -> Option<Failed> {
+    for number in 0..row.width() {
         let failed = by_cell(refusal, number)?;
-        if fails(definition, cells, failed) {
+        if fails(definition, row, failed) {
             return Some(failed);
         }
     }
@@ -173,10 +179,10 @@ fn failed_cell(definition: &TableDef, cells: &[Value], refusal: Refusal) -> Opti
 }
 
 /// Returns the first CHECK for which a row fails with this refusal.
-fn failed_check(definition: &TableDef, cells: &[Value], refusal: Refusal) -> Option<Failed> {
+fn failed_check(definition: &TableDef, row: &Row, refusal: Refusal) -> Option<Failed> {
     for number in 0..definition.checks().conditions.len() {
         let failed = by_check(refusal, number)?;
-        if fails(definition, cells, failed) {
+        if fails(definition, row, failed) {
             return Some(failed);
         }
     }
@@ -184,37 +190,31 @@ fn failed_check(definition: &TableDef, cells: &[Value], refusal: Refusal) -> Opt
 }
 
 /// Returns the reason why a row fails with this refusal. For an application period the row is not tested.
-fn failed_in(definition: &TableDef, cells: &[Value], refusal: Refusal) -> Option<Failed> {
+fn failed_in(definition: &TableDef, row: &Row, refusal: Refusal) -> Option<Failed> {
     if refusal == Refusal::PeriodNotRising {
         return Some(Failed::Period);
     }
-    match failed_cell(definition, cells, refusal) {
+    match failed_cell(definition, row, refusal) {
         Some(failed) => Some(failed),
-        None => failed_check(definition, cells, refusal),
+        None => failed_check(definition, row, refusal),
     }
 }
 
 /// Whether the row of a failure fails for its reason.
-fn is_failure(definition: &TableDef, rows: &[Vec<Value, Memory>], failure: Failure) -> bool
-    ensures { result ≡ spec.is_failure definition.now (rows_of rows.now) failure }
+fn is_failure(definition: &TableDef, rows: &[Row], failure: Failure) -> bool
+    ensures { result ≡ spec.is_failure definition.now rows.now failure }
 {
     match rows.get(failure.row) {
-        Some(cells) => fails(definition, cells, failure.failed),
+        Some(row) => fails(definition, row, failure.failed),
         None => false,
     }
 }
 
 /// Returns the failure of the row at an index, for this refusal. None if that row does not fail so.
-fn failure_at(
-    definition: &TableDef,
-    rows: &[Vec<Value, Memory>],
-    row: usize,
-    refusal: Refusal,
-) -> Option<Failure>
-    ensures { IfSome result (λ f. IsTrue (spec.is_failure definition.now (rows_of rows.now) f)) }
+fn failure_at(definition: &TableDef, rows: &[Row], row: usize, refusal: Refusal) -> Option<Failure>
+    ensures { IfSome result (λ f. IsTrue (spec.is_failure definition.now rows.now f)) }
 {
-    let cells = rows.get(row)?;
-    let failed = failed_in(definition, cells, refusal)?;
+    let failed = failed_in(definition, rows.get(row)?, refusal)?;
     let failure = Failure { row, failed };
     if is_failure(definition, rows, failure) {
         Some(failure)
@@ -225,12 +225,8 @@ fn failure_at(
 
 /// Returns the first of the new rows that fails with this refusal, and why: a text, a NULL, the application period or a
 /// CHECK (E30 and E32 to E34). The rows have the stored columns only.
-pub fn first_failure(
-    definition: &TableDef,
-    rows: &[Vec<Value, Memory>],
-    refusal: Refusal,
-) -> Option<Failure>
-    ensures { IfSome result (λ f. IsTrue (spec.is_failure definition.now (rows_of rows.now) f)) }
+pub fn first_failure(definition: &TableDef, rows: &[Row], refusal: Refusal) -> Option<Failure>
+    ensures { IfSome result (λ f. IsTrue (spec.is_failure definition.now rows.now f)) }
 {
     for row in 0..rows.len() {
         if let Some(failure) = failure_at(definition, rows, row, refusal) {
@@ -272,11 +268,11 @@ pub fn inserted_rows(
     table: &Table,
     columns: &[usize],
     values: Vec<Vec<Value, Memory>, Memory>,
-) -> Result<Vec<Vec<Value, Memory>, Memory>, Refusal>
-    ensures { IfOk result (λ rows. rows_of rows.items
+) -> Result<Vec<Row, Memory>, Refusal>
+    ensures { IfOk result (λ rows. rows.items
         ≡ map (stored_cells table.now.definition columns.now) (rows_of values.entry.items)) }
 {
-    new_rows(memory, &table.definition, columns, values)
+    new_rows(memory, &table.definition, columns, &values)
 }
 
 /// Returns the rows that an INSERT of tuples would add, even if they have faults. Refused if an evaluation overflows 64
@@ -285,13 +281,12 @@ pub fn tuple_rows(
     memory: Memory,
     table: &Table,
     insertion: &Insertion,
-) -> Result<Vec<Vec<Value, Memory>, Memory>, Refusal>
+) -> Result<Vec<Row, Memory>, Refusal>
     ensures { IfOk result (λ rows. option_map
         (map (stored_cells table.now.definition insertion.now.columns.items)) (tuples_in insertion.now)
-        ≡ Some (rows_of rows.items)) }
+        ≡ Some rows.items) }
 {
-    let tuples = tuples_of(memory, &insertion.terms, &insertion.tuples)?;
-    inserted_rows(memory, table, &insertion.columns, tuples)
+    insertion_rows(memory, &table.definition, insertion)
 }
 
 /// Returns the rows that an UPDATE or DELETE of these versions would add, even if they have faults. Refused if an
@@ -301,8 +296,8 @@ pub fn modified_rows(
     table: &Table,
     found: &[Version<'_>],
     modification: &Modification,
-) -> Result<Vec<Vec<Value, Memory>, Memory>, Refusal>
-    ensures { Evaluated (λ rows. rows_of rows.items) (option_map (λ (p : Parts). p.come)
+) -> Result<Vec<Row, Memory>, Refusal>
+    ensures { Evaluated (λ rows. rows.items) (option_map (λ (p : Parts). p.come)
         (parts table.now.definition (portion_in modification.now) (work_in modification.now) (conds_in modification.now)
         found.now)) result }
 {

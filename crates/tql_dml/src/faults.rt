@@ -1,7 +1,8 @@
 //! The tests of new rows: text lengths, NOT NULL, application periods and CHECKs. All rows are tested, and the fault
 //! that comes first in the order of report is reported.
-ghost use Rattle.std.specs.Prelude.{◌≡◌, ◌&&◌, ◌++◌, All, map, nat_lt, option_map, slice_index_or};
+ghost use Rattle.std.specs.Prelude.{◌≡◌, ◌&&◌, ◌++◌, All, Some, map, nat_lt, option_map, slice_index_or};
 ghost use Rattle.tql_spec.specs.Datum.{characters as characters_of, is_null};
+ghost use Rattle.tql_spec.specs.Definition.{cell};
 ghost use Rattle.tql_spec.specs.Refusal.{PeriodNotRising, first, fault_if};
 ghost use Rattle.tql_spec.specs.Change.{is_too_long as too_long, cell_faults, check_fault};
 ghost use Rattle.tql_spec.specs.Words.{listed};
@@ -10,7 +11,7 @@ ghost use Rattle.tql_catalog.specs.Definitions.{column_of, checks_of};
 ghost use Rattle.tql_expr.specs.Meaning.{cond, judged, HasCond};
 ghost use Rattle.tql_expr.specs.Shown.{shown_by};
 ghost use Rattle.tql_value.specs.Refusals.{refusal_of};
-ghost use Rattle.tql_value.specs.Views.{datum_of_value, datum_of_view, row_of, rows_of};
+ghost use Rattle.tql_value.specs.Views.{datum_of_view};
 ghost use Rattle.tql_dml.specs.Cells.{no_column, columns_at, stored_columns, has_long_text as long_in};
 ghost use Rattle.tql_dml.specs.Cells.{lacks_a_value as lacking_in, falls as falling, falls_by, checks_faults};
 ghost use Rattle.tql_dml.specs.Cells.{faults_by, rows_faults};
@@ -20,14 +21,14 @@ use tql_catalog::constraint::Checks;
 use tql_catalog::definition::Column;
 use tql_catalog::table_def::TableDef;
 use tql_expr::columns::Columns;
+use tql_expr::row::Row;
 use tql_expr::stored::StoredRow;
 use tql_expr::terms::{CondId, Terms};
-use tql_memory::Memory;
 use tql_value::arithmetic::Range;
 use tql_value::refusal::Refusal;
 use tql_value::text::characters;
 use tql_value::truth::Truth;
-use tql_value::value::{Value, View};
+use tql_value::value::View;
 use tql_versions::version::HIGH;
 
 /// Whether a text has more characters than a limit. The characters of a text of no more bytes than that are not
@@ -38,63 +39,79 @@ fn is_longer(text: &str, limit: u64) -> bool
     limit < text.len() as u64 && limit < characters(text) as u64
 }
 
-/// Whether a value is a text with more characters than its column allows.
-fn is_too_long(column: &Column, value: &Value) -> bool
-    ensures { result ≡ too_long column.now.limit (datum_of_value value.now) }
+/// Whether a value is a text with more characters than a limit.
+fn is_long_text(value: View<'_>, limit: u64) -> bool
+    ensures { result ≡ too_long (Some limit) (datum_of_view value.entry) }
 {
-    match (column.limit, value) {
-        (Some(limit), Value::Text(text)) => is_longer(text.as_str(), limit),
+    match value {
+        View::Text(text) => is_longer(text, limit),
         _ => false,
     }
 }
 
-/// Whether a value is NULL in a column that is NOT NULL.
-fn is_lacking(column: &Column, value: &Value) -> bool
-    ensures { result ≡ (column.now.is_required && is_null (datum_of_value value.now)) }
+/// Whether a cell is a text with more characters than its column allows.
+fn is_too_long(column: &Column, row: &Row, place: usize) -> bool
+    ensures { result ≡ too_long column.now.limit (cell row.now place) }
 {
-    column.is_required && value.view().is_null()
-}
-
-/// Whether a value is a text too long for the column at an index.
-pub(crate) fn is_too_long_at(columns: &[Column], number: usize, value: &Value) -> bool
-    ensures { result ≡ too_long (slice_index_or (map column_of columns.now) number no_column).limit
-        (datum_of_value value.now) }
-{
-    match columns.get(number) {
-        Some(column) => is_too_long(column, value),
+    match column.limit {
+        Some(limit) => is_long_text(row.column(place), limit),
         None => false,
     }
 }
 
-/// Whether a value is NULL and the column at an index is NOT NULL.
-pub(crate) fn is_lacking_at(columns: &[Column], number: usize, value: &Value) -> bool
-    ensures { result ≡ (slice_index_or (map column_of columns.now) number no_column).required
-        && is_null (datum_of_value value.now) }
+/// Whether a cell is NULL and its column is NOT NULL.
+fn is_lacking(column: &Column, row: &Row, place: usize) -> bool
+    ensures { result ≡ (column.now.is_required && is_null (cell row.now place)) }
+{
+    column.is_required && row.column(place).is_null()
+}
+
+/// Whether a cell is a text too long for the column of this number.
+pub(crate) fn is_too_long_at(columns: &[Column], number: usize, row: &Row, place: usize) -> bool
+    ensures { result ≡ too_long (slice_index_or (map column_of columns.now) number no_column).limit
+        (cell row.now place) }
 {
     match columns.get(number) {
-        Some(column) => is_lacking(column, value),
+        Some(column) => is_too_long(column, row, place),
+        None => false,
+    }
+}
+
+/// Whether a cell is NULL and the column of this number is NOT NULL.
+pub(crate) fn is_lacking_at(columns: &[Column], number: usize, row: &Row, place: usize) -> bool
+    ensures { result ≡ (slice_index_or (map column_of columns.now) number no_column).required
+        && is_null (cell row.now place) }
+{
+    match columns.get(number) {
+        Some(column) => is_lacking(column, row, place),
         None => false,
     }
 }
 
 /// Whether some text of a row is longer than its column allows. `stored` has the number of the column of each cell.
-fn has_long_text(columns: &[Column], stored: &[usize], row: &[Value]) -> bool
-    ensures { result ≡ long_in (columns_at (map column_of columns.now) stored.now) (row_of row.now) }
+/// Only the cells of columns with a limit are read.
+fn has_long_text(columns: &[Column], stored: &[usize], row: &Row) -> bool
+    ensures { result ≡ long_in (columns_at (map column_of columns.now) stored.now) row.now }
 {
-    stored
-        .iter()
-        .zip(row)
-        .any(|(number, value)| is_too_long_at(columns, *number, value))
+    for place in 0..stored.len().min(row.width()) {
+        if is_too_long_at(columns, stored[place], row, place) {
+            return true;
+        }
+    }
+    false
 }
 
 /// Whether some cell of a row is NULL in a column that is NOT NULL. `stored` has the number of the column of each cell.
-fn lacks_a_value(columns: &[Column], stored: &[usize], row: &[Value]) -> bool
-    ensures { result ≡ lacking_in (columns_at (map column_of columns.now) stored.now) (row_of row.now) }
+/// Only the cells of such columns are read.
+fn lacks_a_value(columns: &[Column], stored: &[usize], row: &Row) -> bool
+    ensures { result ≡ lacking_in (columns_at (map column_of columns.now) stored.now) row.now }
 {
-    stored
-        .iter()
-        .zip(row)
-        .any(|(number, value)| is_lacking_at(columns, *number, value))
+    for place in 0..stored.len().min(row.width()) {
+        if is_lacking_at(columns, stored[place], row, place) {
+            return true;
+        }
+    }
+    false
 }
 
 /// Whether both values are not NULL, and the end is not after the start.
@@ -106,15 +123,15 @@ pub(crate) fn falls(start: View<'_>, end: View<'_>) -> bool
 
 /// Returns the first fault of the stored cells of a row: a text longer than its column allows, then NULL in a column
 /// that is NOT NULL.
-fn cell_fault(definition: &TableDef, cells: &[Value]) -> Option<Refusal>
-    ensures { option_map refusal_of result ≡ first (cell_faults (stored_columns definition.now) (row_of cells.now)) }
+fn cell_fault(definition: &TableDef, row: &Row) -> Option<Refusal>
+    ensures { option_map refusal_of result ≡ first (cell_faults (stored_columns definition.now) row.now) }
 {
     let columns = definition.columns();
     let stored = definition.assignable();
-    if has_long_text(columns, stored, cells) {
+    if has_long_text(columns, stored, row) {
         return Some(Refusal::ValueOutOfRange);
     }
-    if lacks_a_value(columns, stored, cells) {
+    if lacks_a_value(columns, stored, row) {
         return Some(Refusal::NullNotAllowed);
     }
     None
@@ -169,27 +186,27 @@ fn checks_fault(terms: &Terms, checks: &[CondId], row: &StoredRow<'_>) -> Option
 
 /// Returns the first fault of a row, given its stored cells. No test reads a generated column, so their moments are
 /// arbitrary.
-fn row_fault(definition: &TableDef, checks: &Checks, cells: &[Value]) -> Option<Refusal>
+fn row_fault(definition: &TableDef, checks: &Checks, row: &Row) -> Option<Refusal>
     ensures { option_map refusal_of result
-        ≡ first (faults_by (stored_columns definition.now) (checks_of checks.now) definition.now (row_of cells.now)) }
+        ≡ first (faults_by (stored_columns definition.now) (checks_of checks.now) definition.now row.now) }
 {
-    let row = StoredRow {
-        cells,
+    let shown = StoredRow {
+        row,
         system: definition.generated(),
         start: 0,
         end: HIGH,
     };
-    let cell = cell_fault(definition, cells);
-    let plain = sooner(cell, period_fault(definition, &row));
-    let checked = checks_fault(&checks.terms, &checks.conditions, &row);
+    let cell = cell_fault(definition, row);
+    let plain = sooner(cell, period_fault(definition, &shown));
+    let checked = checks_fault(&checks.terms, &checks.conditions, &shown);
     sooner(plain, checked)
 }
 
 /// Returns the first fault of the rows of a table, given their stored cells. The order of report, over all rows, is: a
 /// text that is too long or a CHECK that overflows; NULL in a column that is NOT NULL; an application period that does
 /// not start before its end; a CHECK that is FALSE.
-pub fn first_fault(definition: &TableDef, rows: &[Vec<Value, Memory>]) -> Option<Refusal>
-    ensures fault { option_map refusal_of result ≡ first (rows_faults definition.now (rows_of rows.now)) }
+pub fn first_fault(definition: &TableDef, rows: &[Row]) -> Option<Refusal>
+    ensures fault { option_map refusal_of result ≡ first (rows_faults definition.now rows.now) }
     ensures right { IsDefinition definition.now }
 {
     let checks = definition.checks();

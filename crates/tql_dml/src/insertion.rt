@@ -1,7 +1,9 @@
 //! INSERT of values, and of tuples of expressions.
-ghost use Rattle.std.specs.Prelude.{[], All, IfOk, Some};
+ghost use Rattle.std.specs.Prelude.{◌≡◌, List, [], ℕ, All, IfOk, Some, map};
+ghost use Rattle.tql_spec.specs.Datum as pure;
 ghost use Rattle.tql_catalog.specs.Rows.{IsRowOf};
 ghost use Rattle.tql_dml.specs.Alters.{Alters, added_rows, inserted};
+ghost use Rattle.tql_dml.specs.Cells.{stored_cells};
 ghost use Rattle.tql_dml.specs.PointChanges.{InsertsAtPoints};
 ghost use Rattle.tql_dml.specs.PointRefusals.{RefusesInsertionAsPoints};
 ghost use Rattle.tql_value.specs.Points.{ArePrintable};
@@ -9,13 +11,35 @@ ghost use Rattle.tql_value.specs.Views.{rows_of};
 
 use crate::faults::first_fault;
 use crate::spread::new_rows;
-use crate::values::tuples_of;
+use crate::values::insertion_rows;
 use tql_bound::change::Insertion;
 use tql_catalog::catalog::Table;
+use tql_expr::row::Row;
 use tql_memory::Memory;
 use tql_store::store::Delta;
 use tql_value::refusal::Refusal;
 use tql_value::value::Value;
+
+/// Returns the change that adds these rows, given their stored cells, if they have no fault.
+fn adding(memory: Memory, table: &Table, added: Vec<Row, Memory>) -> Result<Delta, Refusal>
+    ensures alters { (columns : List ℕ) (tuples : List pure.Row)
+        → added.entry.items ≡ map (stored_cells table.now.definition columns) tuples
+        → Alters table.now.id [] (λ m. (added_rows table.now.definition columns (Some tuples) m).rows)
+        (added_rows table.now.definition columns (Some tuples)) result }
+    ensures fits { (columns : List ℕ) (tuples : List pure.Row)
+        → added.entry.items ≡ map (stored_cells table.now.definition columns) tuples → ArePrintable tuples
+        → IfOk result (λ delta. All (IsRowOf table.now.definition) delta.added.items) }
+{
+    match first_fault(&table.definition, &added) {
+        Some(refusal) => Err(refusal),
+        None => Ok(Delta {
+            table: table.id,
+            removed: Vec::new(memory),
+            count: added.len() as u64,
+            added,
+        }),
+    }
+}
 
 /// Returns the change that adds a row for each list of values. Columns without a value are NULL. The new rows fit the
 /// table.
@@ -35,19 +59,10 @@ pub fn insert_rows(
     ensures alters { Alters table.now.id []
         (λ m. (added_rows table.now.definition columns.now (Some (rows_of rows.entry.items)) m).rows)
         (added_rows table.now.definition columns.now (Some (rows_of rows.entry.items))) result }
-    ensures fits { IfOk result (λ delta. All (IsRowOf table.now.definition) (rows_of delta.added.items)) }
+    ensures fits { IfOk result (λ delta. All (IsRowOf table.now.definition) delta.added.items) }
 {
-    let definition = &table.definition;
-    let added = new_rows(memory, definition, columns, rows)?;
-    match first_fault(definition, &added) {
-        Some(refusal) => Err(refusal),
-        None => Ok(Delta {
-            table: table.id,
-            removed: Vec::new(memory),
-            count: added.len() as u64,
-            added,
-        }),
-    }
+    let added = new_rows(memory, &table.definition, columns, &rows)?;
+    adding(memory, table, added)
 }
 
 /// Returns the change that adds a row for each tuple, with the values of its expressions: ISO/IEC 9075-2:2011, 14.11.
@@ -64,10 +79,10 @@ pub fn insert_rows(
 pub fn insert_tuples(memory: Memory, table: &Table, insertion: &Insertion) -> Result<Delta, Refusal>
     ensures alters { Alters table.now.id [] (λ m. (inserted table.now.definition insertion.now m).rows)
         (inserted table.now.definition insertion.now) result }
-    ensures fits { IfOk result (λ delta. All (IsRowOf table.now.definition) (rows_of delta.added.items)) }
+    ensures fits { IfOk result (λ delta. All (IsRowOf table.now.definition) delta.added.items) }
     ensures points { IfOk result (InsertsAtPoints table.now.definition insertion.now) }
     ensures refusals { RefusesInsertionAsPoints table.now.definition insertion.now result }
 {
-    let tuples = tuples_of(memory, &insertion.terms, &insertion.tuples)?;
-    insert_rows(memory, table, &insertion.columns, tuples)
+    let added = insertion_rows(memory, &table.definition, insertion)?;
+    adding(memory, table, added)
 }

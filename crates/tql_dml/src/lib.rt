@@ -2,6 +2,7 @@
 #![tactic(auto)]
 
 mod assignment;
+mod draft;
 pub mod failures;
 mod faults;
 pub mod insertion;

@@ -19,7 +19,6 @@ ghost use Rattle.tql_period.specs.Points.{points_of};
 ghost use Rattle.tql_expr.specs.Evaluated.{Evaluated};
 ghost use Rattle.tql_expr.specs.Shown.{shown_by};
 ghost use Rattle.tql_bound.specs.declared.change.Modification as bound;
-ghost use Rattle.tql_value.specs.Views.{rows_of};
 ghost use Rattle.tql_value.specs.declared.when.When.TheVariants.{Now};
 ghost use Rattle.tql_dml.specs.Parts.{before, with_rows, touched_part, part_of, part_where, parts, parts_in};
 
@@ -29,6 +28,7 @@ use crate::periods::cut;
 use tql_bound::change::{Modification, Work};
 use tql_catalog::catalog::Table;
 use tql_catalog::table_def::TableDef;
+use tql_expr::row::Row;
 use tql_expr::stored::StoredRow;
 use tql_memory::Memory;
 use tql_period::period::Period;
@@ -36,7 +36,6 @@ use tql_period::pieces::Pieces;
 use tql_store::store::Delta;
 use tql_value::refusal::Refusal;
 use tql_value::table::TableId;
-use tql_value::value::Value;
 use tql_versions::kept::Kept;
 use tql_versions::readings::if_open;
 use tql_versions::version::{HIGH, Version};
@@ -44,7 +43,7 @@ use tql_versions::version::{HIGH, Version};
 /// The effect of a change so far: the ids of the removed versions, and the added rows as stored cells.
 pub(crate) struct Changed {
     removed: Vec<usize, Memory>,
-    added: Vec<Vec<Value, Memory>, Memory>,
+    added: Vec<Row, Memory>,
 }
 
 impl Drop for Changed {
@@ -73,7 +72,7 @@ impl Changed {
     }
 
     /// Returns the added rows.
-    pub(crate) fn into_added(self) -> Vec<Vec<Value, Memory>, Memory>
+    pub(crate) fn into_added(self) -> Vec<Row, Memory>
         ensures { result.items ≡ self.added.items }
     {
         let Changed { removed: _, added } = self;
@@ -86,9 +85,9 @@ fn shown_row<'a>(definition: &TableDef, version: Version<'a>) -> StoredRow<'a>
     ensures { shown_by result ≡ shown definition.now (version_of version.entry).row }
 {
     StoredRow {
-        cells: version.row,
+        row: &version.kept.row,
         system: definition.generated(),
-        start: version.start,
+        start: version.kept.start,
         end: HIGH,
     }
 }
@@ -252,15 +251,15 @@ fn changes_now(
 /// Returns the change of a table from its effect on versions, if the added rows have no fault.
 fn tested(table: &Table, changed: Result<Changed, Refusal>) -> Result<Delta, Refusal>
     ensures alters { (x : bound.Modification) (found : List answer.Version)
-        → All (λ (v : answer.Version). length v.row.now ≡ stored_width table.now.definition) found
+        → All (λ (v : answer.Version). length v.kept.now.row ≡ stored_width table.now.definition) found
         → Evaluated parts_in (parts table.now.definition (portion_in x) (work_in x) (conds_in x) found) changed
         → Alters table.now.id (gone table.now.definition x found) (λ m. coming (fates table.now.definition found x m))
         (modified table.now.definition found x) result }
     ensures fits { (x : bound.Modification) (found : List answer.Version)
-        → All (λ (v : answer.Version). length v.row.now ≡ stored_width table.now.definition) found
+        → All (λ (v : answer.Version). length v.kept.now.row ≡ stored_width table.now.definition) found
         → Evaluated parts_in (parts table.now.definition (portion_in x) (work_in x) (conds_in x) found) changed
         → All (IsVersionOf table.now.definition) found → AreTyped table.now.definition found x
-        → IfOk result (λ delta. All (IsRowOf table.now.definition) (rows_of delta.added.items)) }
+        → IfOk result (λ delta. All (IsRowOf table.now.definition) delta.added.items) }
 {
     let definition = &table.definition;
     let changed = changed?;
@@ -295,13 +294,13 @@ pub fn modify(
     found: &[Version<'_>],
     modification: &Modification,
 ) -> Result<Delta, Refusal>
-    requires { All (λ v. length v.row.now ≡ stored_width table.now.definition) found.now }
+    requires { All (λ v. length v.kept.now.row ≡ stored_width table.now.definition) found.now }
     ensures alters { Alters table.now.id (gone table.now.definition modification.now found.now)
         (λ m. coming (fates table.now.definition found.now modification.now m))
         (modified table.now.definition found.now modification.now) result }
     ensures fits { All (IsVersionOf table.now.definition) found.now
         → AreTyped table.now.definition found.now modification.now
-        → IfOk result (λ delta. All (IsRowOf table.now.definition) (rows_of delta.added.items)) }
+        → IfOk result (λ delta. All (IsRowOf table.now.definition) delta.added.items) }
     ensures points { IfOk result (ModifiesAtPoints table.now.definition found.now modification.now) }
     ensures refusals { RefusesModificationAsPoints table.now.definition found.now modification.now result }
 {
@@ -319,13 +318,13 @@ pub fn modify_current(
     current: &[Kept],
     modification: &Modification,
 ) -> Result<Delta, Refusal>
-    requires { All (λ v. length v.row.now ≡ stored_width table.now.definition) (open_versions current.now) }
+    requires { All (λ v. length v.kept.now.row ≡ stored_width table.now.definition) (open_versions current.now) }
     ensures alters { Alters table.now.id (gone table.now.definition modification.now (open_versions current.now))
         (λ m. coming (fates table.now.definition (open_versions current.now) modification.now m))
         (modified table.now.definition (open_versions current.now) modification.now) result }
     ensures fits { All (IsVersionOf table.now.definition) (open_versions current.now)
         → AreTyped table.now.definition (open_versions current.now) modification.now
-        → IfOk result (λ delta. All (IsRowOf table.now.definition) (rows_of delta.added.items)) }
+        → IfOk result (λ delta. All (IsRowOf table.now.definition) delta.added.items) }
     ensures points { IfOk result
         (ModifiesAtPoints table.now.definition (open_versions current.now) modification.now) }
     ensures refusals { RefusesModificationAsPoints table.now.definition (open_versions current.now) modification.now

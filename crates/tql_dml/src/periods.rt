@@ -4,16 +4,17 @@ ghost use Rattle.tql_spec.specs.Definition.{cell, period_of, point_like, point_o
 ghost use Rattle.tql_spec.specs.Period.{where_rising};
 ghost use Rattle.tql_period.specs.Points.{points_of};
 ghost use Rattle.tql_expr.specs.Shown.{shown_by};
-ghost use Rattle.tql_value.specs.Views.{datum_of_value, datum_of_view, row_of};
+ghost use Rattle.tql_value.specs.Views.{datum_of_view};
+ghost use Rattle.tql_dml.specs.Cells.{data_of};
 ghost use Rattle.tql_dml.specs.Cutting.{Cuts};
 
-use crate::spread::put;
+use crate::draft::put;
 use tql_catalog::table_def::TableDef;
 use tql_expr::columns::Columns;
 use tql_expr::stored::StoredRow;
 use tql_period::period::Period;
 use tql_period::pieces::{Pieces, split};
-use tql_value::value::{Value, View};
+use tql_value::value::View;
 
 /// Returns the point of a value, in days or microseconds since 1970-01-01. Returns 0 for a value that is not a point.
 pub(crate) fn point(value: View<'_>) -> i64
@@ -61,18 +62,18 @@ pub(crate) fn cut(
 }
 
 /// Returns a point as a value of the kind that the cell at an index has.
-fn like(cells: &[Value], place: usize, point: i64) -> Value
-    ensures { datum_of_value result ≡ point_like (cell (row_of cells.now) place) point }
+fn like<'a>(cells: &[View<'a>], place: usize, point: i64) -> View<'a>
+    ensures { datum_of_view result ≡ point_like (cell (data_of cells.now) place) point }
 {
     match cells.get(place) {
-        Some(Value::Day(_)) => Value::Day(point),
-        _ => Value::Moment(point),
+        Some(View::Day(_)) => View::Day(point),
+        _ => View::Moment(point),
     }
 }
 
 /// Sets the application period of a full row.
-pub(crate) fn put_period(definition: &TableDef, period: Period, cells: &mut [Value])
-    ensures { row_of cells.new ≡ with_period definition.now (points_of period) (row_of cells.old) }
+pub(crate) fn put_period(definition: &TableDef, period: Period, cells: &mut [View<'_>])
+    ensures { data_of cells.new ≡ with_period definition.now (points_of period) (data_of cells.old) }
 {
     if let Some(application) = definition.application() {
         let start = like(cells, application.start, period.start);

@@ -8,7 +8,6 @@ use Rattle.tql_spec.specs.Change.{cell_faults}
 use Rattle.tql_catalog.specs.Definitions.{checks_of}
 use Rattle.tql_expr.specs.Meaning.{cond}
 use Rattle.tql_value.specs.Refusals.{refusal_of}
-use Rattle.tql_value.specs.Views.{row_of}
 use Rattle.tql_dml.specs.Cells.{stored_columns, falls_by, unstamped, checks_faults}
 use Rattle.tql_dml.proofs.FaultLaws.{first_of_both}
 use Rattle.tql_dml.proofs.faults.row_fault.Goals as goal
@@ -17,7 +16,7 @@ pub returns : goal.returns
 returns c =
     let d = c.args.definition.now in
     let checks = c.args.checks.now in
-    let cells : Row = row_of c.args.cells.now in
+    let cells : Row = c.args.row.now in
     let own : List Refusal = cell_faults (stored_columns d) cells in
     let fallen : List Refusal = fault_if (falls_by d.application (unstamped d cells)) PeriodNotRising in
     let broken : List Refusal = checks_faults (checks_of checks) (unstamped d cells) in

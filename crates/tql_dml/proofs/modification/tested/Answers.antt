@@ -1,7 +1,6 @@
 use Rattle.std.proofs.Common.{ap, subst, ◌∙◌}
 use Rattle.tql_expr.specs.Evaluated.{Evaluated}
 use Rattle.tql_spec.specs.Refusal.{first}
-use Rattle.tql_value.specs.Views.{rows_of}
 use Rattle.tql_dml.specs.Cells.{rows_faults}
 use Rattle.tql_dml.specs.Parts.{parts_in}
 use Rattle.tql_dml.proofs.Altering.{modify_fails, modify_refused, modify_gives, modify_fits, parts_of}
@@ -18,20 +17,20 @@ returns-in-Some-clause-alters c x found wide e =
     let d = c.args.table.now.definition in
     modify_refused d c.args.table.now.id found x (parts_in c.in_ok-changed.changed) c.in-Some.refusal
     c.first_fault.ensures.right wide (subst (Evaluated parts_in (parts_of d found x)) c.in_ok-changed.was e)
-    (c.in-Some.ensures.fault ∙ ap (λ rs. first (rows_faults d (rows_of rs))) c.deref.ensures.value)
+    (c.in-Some.ensures.fault ∙ ap (λ rs. first (rows_faults d rs)) c.deref.ensures.value)
 
 pub returns-in-None-clause-alters : goal.returns-in-None-clause-alters
 returns-in-None-clause-alters c x found wide e =
     let d = c.args.table.now.definition in
     modify_gives d c.args.table.now.id found x (parts_in c.in_ok-changed.changed) c.of_table.result
     c.first_fault.ensures.right wide (subst (Evaluated parts_in (parts_of d found x)) c.in_ok-changed.was e)
-    c.of_table.ensures.table c.of_table.ensures.removed (ap rows_of c.of_table.ensures.added) c.of_table.ensures.count
-    (c.in-None.ensures.fault ∙ ap (λ rs. first (rows_faults d (rows_of rs))) c.deref.ensures.value)
+    c.of_table.ensures.table c.of_table.ensures.removed c.of_table.ensures.added c.of_table.ensures.count
+    (c.in-None.ensures.fault ∙ ap (λ rs. first (rows_faults d rs)) c.deref.ensures.value)
 
 pub returns-in-None-clause-fits : goal.returns-in-None-clause-fits
 returns-in-None-clause-fits c x found wide e =
     let d = c.args.table.now.definition in
-    modify_fits d found x (parts_in c.in_ok-changed.changed) (rows_of c.of_table.result.added.items)
+    modify_fits d found x (parts_in c.in_ok-changed.changed) c.of_table.result.added.items
     c.first_fault.ensures.right wide (subst (Evaluated parts_in (parts_of d found x)) c.in_ok-changed.was e)
-    (ap rows_of c.of_table.ensures.added)
-    (c.in-None.ensures.fault ∙ ap (λ rs. first (rows_faults d (rows_of rs))) c.deref.ensures.value)
+    c.of_table.ensures.added
+    (c.in-None.ensures.fault ∙ ap (λ rs. first (rows_faults d rs)) c.deref.ensures.value)
