@@ -7,4 +7,3 @@ pub mod Sets
 pub mod Generated
 pub mod Shown
 pub mod Equalities
-pub mod Overlaps

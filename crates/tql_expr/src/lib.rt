@@ -8,7 +8,6 @@ pub mod constants;
 pub mod equality;
 mod evaluation;
 pub mod node;
-pub mod overlap;
 pub mod row;
 mod safety;
 mod scalar;

@@ -1,22 +1,23 @@
 //! Stored rows, shown with the columns of their table.
-ghost use Rattle.std.specs.Prelude.{◌≡◌, length, map, insert};
+ghost use Rattle.std.specs.Prelude.{◌≡◌, length, insert};
 ghost use Rattle.tql_spec.specs.Datum as pure;
-ghost use Rattle.tql_spec.specs.Definition.{cell, with_generated};
-ghost use Rattle.tql_value.specs.Views.{datum_of_value, datum_of_view};
-ghost use Rattle.tql_expr.specs.Generated.{generated, read_or};
+ghost use Rattle.tql_spec.specs.Definition.{cell};
+ghost use Rattle.tql_value.specs.Views.{datum_of_view};
+ghost use Rattle.tql_expr.specs.Generated.{read_or};
+ghost use Rattle.tql_expr.specs.Shown.{shown_by};
 
 use crate::columns::{Columns, over_no_rows};
-use crate::row::cell_at;
+use crate::row::Row;
 use crate::terms::{Aggregate, Terms};
 use std::cmp::Ordering;
 use tql_value::arithmetic::Range;
-use tql_value::value::{Value, View};
+use tql_value::value::View;
 
 /// A stored row, shown with the columns of its table: ROW START and ROW END are in their columns.
 #[derive(Clone, Copy)]
 pub struct StoredRow<'a> {
-    /// The stored cells: those of all columns that are not generated.
-    pub cells: &'a [Value],
+    /// The row as it is stored: with all columns that are not generated.
+    pub row: &'a Row,
     /// The columns of ROW START and ROW END, by number; `None` in a table that is not versioned.
     pub system: Option<(usize, usize)>,
     /// The moment at which the row began, in microseconds since 1970-01-01 00:00:00.
@@ -45,51 +46,36 @@ fn place_among_others(added: usize, width: usize, place: usize) -> Option<usize>
     }
 }
 
-impl<'a> StoredRow<'a> {
-    /// Returns the number of columns of its table.
-    pub fn width(&self) -> usize
-        ensures { result ≡ length (with_generated (generated self.now.system) (map datum_of_value self.now.cells.now)
-            self.now.start self.now.end) }
-    {
-        let stored = self.cells.len();
-        if self.system.is_some() {
-            stored + 2
-        } else {
-            stored
-        }
-    }
-
-    /// Returns the value of a column after two stamps are added to the cells, one after the other.
-    fn with_stamps(&self, first: Stamp, second: Stamp, place: usize) -> View<'a>
-        ensures { datum_of_view result
-            ≡ cell (insert (insert (map datum_of_value self.now.cells.now) first.place (pure.Moment first.moment))
-            second.place (pure.Moment second.moment)) place }
-    {
-        let width = self.cells.len();
-        let Some(place) = place_among_others(second.place, width + 1, place) else {
-            return View::Moment(second.moment);
-        };
-        match place_among_others(first.place, width, place) {
-            None => View::Moment(first.moment),
-            Some(place) => cell_at(self.cells, place),
-        }
+/// Returns the value of a column of a row after two stamps are added to it, one after the other.
+fn with_stamps(row: &Row, first: Stamp, second: Stamp, place: usize) -> View<'_>
+    ensures { datum_of_view result
+        ≡ cell (insert (insert row.now first.place (pure.Moment first.moment)) second.place
+        (pure.Moment second.moment)) place }
+{
+    let width = row.width();
+    let Some(place) = place_among_others(second.place, width + 1, place) else {
+        return View::Moment(second.moment);
+    };
+    match place_among_others(first.place, width, place) {
+        None => View::Moment(first.moment),
+        Some(place) => row.column(place),
     }
 }
 
-impl Columns for StoredRow<'_> {
-    ghost use Rattle.std.specs.Prelude.{[], map};
-    ghost use Rattle.tql_spec.specs.Definition.{with_generated};
-    ghost use Rattle.tql_value.specs.Views.{datum_of_value};
-    ghost use Rattle.tql_expr.specs.Generated.{generated};
-
-    ghost values = { λ r. with_generated (generated r.system) (map datum_of_value r.cells.now) r.start r.end };
-
-    ghost group = { λ r. [] };
-
-    fn column(&self, place: usize) -> View<'_> {
+impl<'a> StoredRow<'a> {
+    /// Returns the value of a column, or NULL past the last one. The value outlives this view of the row.
+    pub fn value(&self, place: usize) -> View<'a>
+        ensures { datum_of_view result ≡ cell (shown_by self.now) place }
+    {
         let Some((start, end)) = self.system else {
-            return cell_at(self.cells, place);
+            return self.row.column(place);
         };
+        if place < start && place < end {
+            let value = self.row.column(place);
+            if !value.is_null() {
+                return value;
+            }
+        }
         let begins = Stamp {
             place: start,
             moment: self.start,
@@ -99,10 +85,34 @@ impl Columns for StoredRow<'_> {
             moment: self.end,
         };
         if start < end {
-            self.with_stamps(begins, ends, place)
+            with_stamps(self.row, begins, ends, place)
         } else {
-            self.with_stamps(ends, begins, place)
+            with_stamps(self.row, ends, begins, place)
         }
+    }
+}
+
+impl Columns for StoredRow<'_> {
+    ghost use Rattle.std.specs.Prelude.{◌≡◌, [], length};
+    ghost use Rattle.tql_expr.specs.Shown.{shown_by};
+
+    ghost values = { λ r. shown_by r };
+
+    ghost group = { λ r. [] };
+
+    fn width(&self) -> usize
+        ensures { result ≡ length (shown_by self.now) }
+    {
+        let stored = self.row.width();
+        if self.system.is_some() {
+            stored + 2
+        } else {
+            stored
+        }
+    }
+
+    fn column(&self, place: usize) -> View<'_> {
+        self.value(place)
     }
 
     fn aggregate<'a>(&'a self, terms: &'a Terms, which: Aggregate) -> Result<View<'a>, Range> {

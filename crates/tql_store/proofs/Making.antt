@@ -3,7 +3,7 @@ use Rattle.std.proofs.Common.{◌≡◌, ℕ, ◌<◌, Bool, true, List, ◌++�
 use Rattle.std.proofs.Common.{ap, subst, ◌∙◌}
 use Rattle.std.specs.Prelude.{ℤ, slice_set, Option, Some, OnErr}
 use Rattle.tql_spec.specs.Bag.{SameBag}
-use Rattle.tql_spec.specs.Datum.{Datum}
+use Rattle.tql_spec.specs.Datum.{Row}
 use Rattle.tql_spec.specs.Definition.{Stamped}
 use Rattle.tql_versions.specs.Changes.{alive, closing, fresh, replaced}
 use Rattle.tql_store_rows.specs.TableModel.{TableModel, AtRest, InTurn, IsJudged, versions, live}
@@ -35,28 +35,23 @@ kept-rest m i n ts old new q l is t e last r =
     subst (AtRest last) (sym (here-at ts i n new q l))
     (refused-rest m last old new t e (subst (AtRest last) (sym is) r))
 
-pub ok-versions : {R : Type 0} (cells : R
-    → List Datum) (rs : List R) (m m' : ℤ) (i n : ℕ) (ts : List TableModel) (old new : TableModel) (removed is : List ℕ)
-    → m' ≡ m
-    → i ≡ n → n < length ts → old ≡ table_at ts n → is ≡ removed
-    → SameBag (live new) (filter alive (closing m' is old.current ++ old.closed) ++ map (λ r. fresh m' (cells r)) rs)
+pub ok-versions : (rs : List Row) (m m' : ℤ) (i n : ℕ) (ts : List TableModel) (old new : TableModel)
+    (removed is : List ℕ) → m' ≡ m → i ≡ n → n < length ts → old ≡ table_at ts n → is ≡ removed
+    → SameBag (live new) (filter alive (closing m' is old.current ++ old.closed) ++ map (fresh m') rs)
     → SameBag (live (table_at (slice_set ts i new) n))
-    (filter alive (closing m removed (table_at ts n).current ++ (table_at ts n).closed) ++ map
-    (λ r. fresh m (cells r)) rs)
-ok-versions cells rs m m' i n ts old new removed is at q l start same bag =
+    (filter alive (closing m removed (table_at ts n).current ++ (table_at ts n).closed) ++ map (fresh m) rs)
+ok-versions rs m m' i n ts old new removed is at q l start same bag =
     subst (λ (x : ℤ). SameBag (live (table_at (slice_set ts i new) n))
-    (filter alive (closing x removed (table_at ts n).current ++ (table_at ts n).closed) ++ map
-    (λ r. fresh x (cells r)) rs)) at
+    (filter alive (closing x removed (table_at ts n).current ++ (table_at ts n).closed) ++ map (fresh x) rs)) at
     (subst (λ (js : List ℕ). SameBag (live (table_at (slice_set ts i new) n))
-    (filter alive (closing m' js (table_at ts n).current ++ (table_at ts n).closed) ++ map (λ r. fresh m' (cells r))
-    rs)) same
+    (filter alive (closing m' js (table_at ts n).current ++ (table_at ts n).closed) ++ map (fresh m') rs)) same
     (subst (λ (h : TableModel). SameBag (live (table_at (slice_set ts i new) n))
-    (filter alive (closing m' is h.current ++ h.closed) ++ map (λ r. fresh m' (cells r)) rs)) start
+    (filter alive (closing m' is h.current ++ h.closed) ++ map (fresh m') rs)) start
     (subst (λ (h : TableModel). SameBag (live h)
-    (filter alive (closing m' is old.current ++ old.closed) ++ map (λ r. fresh m' (cells r)) rs))
+    (filter alive (closing m' is old.current ++ old.closed) ++ map (fresh m') rs))
     (sym (here-at ts i n new q l)) bag)))
 
-pub ok-judged : (rows : List (List Datum)) (m m' : ℤ) (i n : ℕ) (ts : List TableModel) (old new : TableModel)
+pub ok-judged : (rows : List Row) (m m' : ℤ) (i n : ℕ) (ts : List TableModel) (old new : TableModel)
     (removed is : List ℕ) → m' ≡ m → i ≡ n → n < length ts → old ≡ table_at ts n → is ≡ removed
     → ((gone : Stamped → Bool) → IsJudged gone is old → SameBag (live new) (replaced m' gone rows (live old)))
     → (gone : Stamped → Bool) → IsJudged gone removed (table_at ts n)

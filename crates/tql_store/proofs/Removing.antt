@@ -11,7 +11,7 @@ use Rattle.tql_spec.proofs.Bags.{sum-filter}
 use Rattle.tql_spec.proofs.Members.{by_bool}
 use Rattle.tql_spec.specs.Bag.{SameBag, In}
 use Rattle.tql_spec.specs.Calendar.{high}
-use Rattle.tql_spec.specs.Datum.{Datum}
+use Rattle.tql_spec.specs.Datum.{Row}
 use Rattle.tql_spec.specs.Definition.{Stamped, Version}
 use Rattle.tql_store_rows.proofs.Counting.{once-first, once-tail}
 use Rattle.tql_store_rows.proofs.Turns.{eq_false, lt_true, first_place, later_place}
@@ -207,21 +207,20 @@ count-closing m (i ∷ is) vs below h once =
           ap opens (at-closed m i (slice_index_or is k d) vs (once-first i is (once i) k d l)) ∙ s.1,
         )
 
-count-fresh : {R : Type 0} (m : ℤ) (cells : R → List Datum) (rs : List R)
-    → sum_by shows (map (λ r. fresh m (cells r)) rs) ≡ length rs
-count-fresh m cells [] = refl
-count-fresh m cells (r ∷ rs) = let k = count-fresh m cells rs in let one : shows (fresh m (cells r)) ≡ 1 =
-    refl in omega (arith, k, one, sum_by-cons shows (fresh m (cells r)) (map (λ x. fresh m (cells x)) rs))
+count-fresh : (m : ℤ) (rs : List Row) → sum_by shows (map (fresh m) rs) ≡ length rs
+count-fresh m [] = refl
+count-fresh m (r ∷ rs) = let k = count-fresh m rs in let one : shows (fresh m r) ≡ 1 =
+    refl in omega (arith, k, one, sum_by-cons shows (fresh m r) (map (fresh m) rs))
 
 -- the count of current versions changes by the rows added and removed
-pub counted-rows : {R : Type 0} (m : ℤ) (cells : R → List Datum) (rs : List R) (removed : List ℕ)
+pub counted-rows : (m : ℤ) (rs : List Row) (removed : List ℕ)
     (h n : rows.TableModel)
     → InTurn m h → rows.AreRemovable h removed
-    → SameBag (live n) (filter alive (closing m removed h.current ++ h.closed) ++ map (λ r. fresh m (cells r)) rs)
+    → SameBag (live n) (filter alive (closing m removed h.current ++ h.closed) ++ map (fresh m) rs)
     → length (filter is_current (live n)) + length removed ≡ length (filter is_current (live h)) + length rs
-counted-rows m cells rs removed h n t r bag =
+counted-rows m rs removed h n t r bag =
     let W = closing m removed h.current ++ h.closed in
-    let F = map (λ r. fresh m (cells r)) rs in
+    let F = map (fresh m) rs in
     let e1 = count-filter (live n) in
     let e2 = bag.totals shows in
     let e3 = sum_by-append shows (filter alive W) F in
@@ -231,7 +230,7 @@ counted-rows m cells rs removed h n t r bag =
     let e7 = sum_by-append opens h.current h.closed in
     let e8 = sum-filter alive shows (versions h) in
     let e9 = count-filter (live h) in
-    let e10 = count-fresh m cells rs in
+    let e10 = count-fresh m rs in
     omega (arith, e1, e2, e3, e4, e5, e6, e7, e8, e9, e10)
   where
     one : (v : Version) → alive v ≡ true → is_current v ≡ true → opens v ≡ 1

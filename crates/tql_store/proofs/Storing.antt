@@ -1,5 +1,5 @@
 -- What a store shows of its tables, and that its invariant holds after tables are added, dropped and changed.
-use Rattle.std.proofs.Common.{◌≡◌, ℕ, suc, ◌+◌, ◌≤◌, Bool, true, false, List, [], ◌∷◌, ◌++◌, map, filter}
+use Rattle.std.proofs.Common.{◌≡◌, ℕ, ◌+◌, ◌≤◌, Bool, true, false, List, [], ◌++◌, map, filter}
 use Rattle.std.proofs.Common.{length, refl, sym, ap, subst, ◌∙◌, arith}
 use Rattle.std.specs.Prelude.{ℤ, All, IsTrue, nat_eq, slice_get, slice_index_or, Option, Some}
 use Rattle.std.specs.Prelude.{None, if◌then◌else◌}
@@ -8,7 +8,7 @@ use Rattle.tql_spec.proofs.Bags.{same-refl}
 use Rattle.tql_spec.proofs.Members.{by_bool}
 use Rattle.tql_spec.specs.Bag.{SameBag}
 use Rattle.tql_spec.specs.Calendar.{high}
-use Rattle.tql_spec.specs.Datum.{Datum}
+use Rattle.tql_spec.specs.Datum.{Row}
 use Rattle.tql_spec.specs.Definition.{Stamped, Version}
 use Rattle.tql_store_rows.proofs.Beginning.{begin-turn}
 use Rattle.tql_versions.specs.Changes.{alive, closing, fresh, is_current, pruned, replaced, undone}
@@ -208,19 +208,17 @@ removable-at m horizon working last places tables touched h t removed at o is r 
     (versions-at tables t) s.current in
     removable-rows m (table_at tables t) removed ((in_turn working m at o).ready.turn t) s' s.once
 
-pub replaces-at : {R : Type 0} (cells : R
-    → List Datum) (added : List R) (m horizon : ℤ) (working last : Option ℤ) (places : List TableSlot)
+pub replaces-at : (added : List Row) (m horizon : ℤ) (working last : Option ℤ) (places : List TableSlot)
     (old new : List rows.TableModel)
     (touched : List ℕ) (h g : StoreModel) (n : ℕ) (removed : List ℕ) → working ≡ Some m
     → IsOrderly places old touched working last → shown places old working last horizon ≡ h
     → shown places new working last horizon ≡ g → AreRemovable h n removed → HasTurned m n old new
     → SameBag (rows.live (table_at new n))
-    (filter alive (closing m removed (table_at old n).current ++ (table_at old n).closed) ++ map
-    (λ r. fresh m (cells r)) added)
+    (filter alive (closing m removed (table_at old n).current ++ (table_at old n).closed) ++ map (fresh m) added)
     → ((gone : Stamped → Bool) → IsJudged gone removed (table_at old n)
-    → SameBag (rows.live (table_at new n)) (replaced m gone (map cells added) (rows.live (table_at old n))))
-    → ReplacesVersions n removed (map cells added) h g
-replaces-at {R} cells added m horizon working last places old new touched h g n removed at o is now r turned bag
+    → SameBag (rows.live (table_at new n)) (replaced m gone added (rows.live (table_at old n))))
+    → ReplacesVersions n removed added h g
+replaces-at added m horizon working last places old new touched h g n removed at o is now r turned bag
     judged =
     record {
       tables = ap (λ (k : StoreModel). k.tables) (sym now) ∙ ap (λ (k : StoreModel). k.tables) is;
@@ -230,28 +228,23 @@ replaces-at {R} cells added m horizon working last places old new touched h g n 
       others = λ u e. same-list (live-of new g u now ∙ ap rows.live (turned.others u e) ∙ sym (live-of old h u is));
       versions = λ x gone w j.
           let same : m ≡ x = one_moment working m x at (ap (λ (k : StoreModel). k.working) is ∙ w) in
-          subst (λ (y : ℤ). SameBag (live g n) (replaced y gone (map cells added) (live h n))) same
-          (subst (λ vs. SameBag vs (replaced m gone (map cells added) (live h n))) (sym (live-of new g n now))
-          (subst (λ vs. SameBag (rows.live (table_at new n)) (replaced m gone (map cells added) vs))
+          subst (λ (y : ℤ). SameBag (live g n) (replaced y gone added (live h n))) same
+          (subst (λ vs. SameBag vs (replaced m gone added (live h n))) (sym (live-of new g n now))
+          (subst (λ vs. SameBag (rows.live (table_at new n)) (replaced m gone added vs))
           (sym (live-of old h n is))
           (judged gone (judged-rows m (table_at old n) gone removed turn
           (λ id v e. j id v (ap (λ (vs : List Version). slice_get vs id) (versions-of old h n (table_at old n) is refl)
           ∙ e))))));
       counted = subst (λ vs. length (filter is_current vs) + length removed ≡ length (filter is_current (live h n)) +
-          length (map cells added)) (sym (live-of new g n now))
+          length added) (sym (live-of new g n now))
           (subst (λ vs. length (filter is_current (rows.live (table_at new n))) + length removed ≡ length
-          (filter is_current vs) + length (map cells added)) (sym (live-of old h n is))
-          (counted-rows m cells added removed (table_at old n) (table_at new n) turn
-          (removable-at m horizon working last places old touched h n removed at o is r) bag
-          ∙ ap (λ (k : ℕ). length (filter is_current (rows.live (table_at old n))) + k) (sym (length-cells added))));
+          (filter is_current vs) + length added) (sym (live-of old h n is))
+          (counted-rows m added removed (table_at old n) (table_at new n) turn
+          (removable-at m horizon working last places old touched h n removed at o is r) bag));
     }
   where
     turn : InTurn m (table_at old n)
     turn = (in_turn working m at o).ready.turn n
-
-    length-cells : (rs : List R) → length (map cells rs) ≡ length rs
-    length-cells [] = refl
-    length-cells (x ∷ xs) = ap suc (length-cells xs)
 
 -- ---- what a store shows after tables are added and dropped
 

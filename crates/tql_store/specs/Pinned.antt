@@ -72,7 +72,7 @@ pub record AsksAt (p : ℤ) (when other : When) : Type 0 where
 
 -- an answer as it was at a pin
 abbrev pub answer_capped : ℤ → answer.Version → answer.Version
-answer_capped p s = record { id = s.id; row = s.row; start = s.start; end = end_told p s.end }
+answer_capped p s = record { id = s.id; kept = s.kept; end = end_told p s.end }
 
 -- ---- copies
 

@@ -25,7 +25,7 @@ ghost use Rattle.tql_store.specs.Represents.{Represents, BeginCopies, ChangeRepl
 ghost use Rattle.tql_store.specs.Represents.{RollbackRestores, AddsTable, AddKeepsCopies, DropEmpties, Takes};
 ghost use Rattle.tql_store.specs.Represents.{Answers, PrunesCopies};
 ghost use Rattle.tql_store.specs.declared.tables.TableSlot.TheVariants.{Free};
-ghost use Rattle.tql_value.specs.Views.{datum_of_value, datum_of_view};
+ghost use Rattle.tql_value.specs.Views.{datum_of_view};
 ghost use Rattle.tql_value.specs.declared.when.When.TheVariants.{Now};
 ghost use Rattle.tql_value.specs.When.{is_now, when_of};
 ghost use Rattle.tql_value.specs.declared.refusal.Refusal.TheVariants.{OutOfMemory};
@@ -39,12 +39,13 @@ use std::marker::Model;
 use tql_index::index::IntervalIndex;
 use tql_memory::Memory;
 use tql_period::period::Period;
+use tql_row::row::Row;
 use tql_store_index::basis::Sought;
 use tql_store_rows::versions::Versions;
 use tql_value::calendar::FIRST_MOMENT;
 use tql_value::refusal::Refusal;
 use tql_value::table::TableId;
-use tql_value::value::{Value, View};
+use tql_value::value::View;
 use tql_value::when::When;
 use tql_versions::kept::Kept;
 use tql_versions::version::Version;
@@ -56,7 +57,7 @@ pub struct Delta {
     /// The ids of the current versions to remove.
     pub removed: Vec<usize, Memory>,
     /// The rows to add.
-    pub added: Vec<Vec<Value, Memory>, Memory>,
+    pub added: Vec<Row, Memory>,
     /// The row count that the statement reports.
     pub count: u64,
 }
@@ -78,11 +79,11 @@ impl Delta {
         ensures versions { OnOk result (SameBag (live_rows (table_at rows.new self.table))
             (filter alive (closing moment self.removed.items (table_at rows.old self.table).current
             ++ (table_at rows.old self.table).closed)
-            ++ map (λ row. fresh moment (map datum_of_value row.items)) self.added.items)) }
+            ++ map (fresh moment) self.added.items)) }
         ensures judged { OnOk result ((gone : Stamped → Bool)
             → IsJudged gone self.removed.items (table_at rows.old self.table)
             → SameBag (live_rows (table_at rows.new self.table))
-            (replaced moment gone (map (λ row. map datum_of_value row.items) self.added.items)
+            (replaced moment gone self.added.items
             (live_rows (table_at rows.old self.table)))) }
         ensures err { OnErr result (map all_versions rows.new ≡ map all_versions rows.old) }
         ensures err_rest { OnErr result ((last : _) → AtRest last (table_at rows.old self.table)
@@ -317,9 +318,9 @@ impl<I: IntervalIndex> Store<I> {
         requires present { IsTrue (table_there self.old delta.table) }
         requires removable { AreRemovable self.old delta.table delta.removed.items }
         ensures ok { OnOk result (ReplacesVersions delta.table delta.removed.items
-            (map (λ row. map datum_of_value row.items) delta.added.items) self.old self.new) }
+            delta.added.items self.old self.new) }
         ensures copies { OnOk result (ChangeReplaces delta.table delta.removed.items
-            (map (λ row. map datum_of_value row.items) delta.added.items) self.old self.new) }
+            delta.added.items self.old self.new) }
         ensures err { OnErr result (self.new ≡ self.old) }
         ensures memory { IfErr result (λ e. e ≡ OutOfMemory) }
     {

@@ -3,18 +3,19 @@ ghost use Rattle.std.specs.Prelude.{◌≡◌, ◌↔◌, [], ◌∷◌, IsTrue,
 ghost use Rattle.tql_spec.specs.Definition.{period_between, point_of as point_for};
 ghost use Rattle.tql_spec.specs.Period.{where_rising, share_a_point};
 ghost use Rattle.tql_period.specs.Points.{points_of};
-ghost use Rattle.tql_value.specs.Views.{datum_of_value, datum_of_view};
+ghost use Rattle.tql_value.specs.Views.{datum_of_view};
 ghost use Rattle.tql_index.specs.Spans.{span_of};
 ghost use Rattle.tql_store_index.specs.Basis.{basis_of, filed, in_values, sought_of, Serves, stands_by, is_sought};
 ghost use Rattle.tql_store_index.specs.Basis.{ServesIf, is_between as between};
 ghost use Rattle.tql_store_index.specs.Places.{fitting_if};
 
-use crate::tuple::{cell, group_of_row, has_values, placed_if};
+use crate::tuple::{group_of_row, has_values, placed_if};
 use std::slice;
 use tql_index::span::Span;
 use tql_memory::Memory;
 use tql_period::period::Period;
-use tql_value::value::{Value, View};
+use tql_row::row::Row;
+use tql_value::value::View;
 
 /// An index definition: the key by which an index finds rows.
 #[derive(Drop)]
@@ -59,15 +60,15 @@ fn point(value: View<'_>) -> i64
 }
 
 /// Returns the period of a row between two columns, or `None` if it does not start before it ends.
-fn period_of_row(start: usize, end: usize, row: &[Value]) -> Option<Period>
-    ensures { option_map points_of result ≡ where_rising (period_between (map datum_of_value row.now) start end) }
+fn period_of_row(start: usize, end: usize, row: &Row) -> Option<Period>
+    ensures { option_map points_of result ≡ where_rising (period_between row.now start end) }
 {
-    Period::new(point(cell(row, start)), point(cell(row, end)))
+    Period::new(point(row.column(start)), point(row.column(end)))
 }
 
 /// Whether the period of a row between two columns shares a point with `other`.
-fn shares(start: usize, end: usize, row: &[Value], other: Period) -> bool
-    ensures { result ≡ share_a_point (period_between (map datum_of_value row.now) start end) (points_of other) }
+fn shares(start: usize, end: usize, row: &Row, other: Period) -> bool
+    ensures { result ≡ share_a_point (period_between row.now start end) (points_of other) }
 {
     match period_of_row(start, end, row) {
         Some(period) => period.shares_a_point(other),
@@ -96,9 +97,9 @@ fn is_between(value: View<'_>, low: i64, high: i64) -> bool
 
 /// Returns the span of `period` in the group of a row's values, or `None` if one of these values is NULL. Without a
 /// period, the span is the whole group.
-fn span_in(columns: &[usize], row: &[Value], period: Option<Period>) -> Option<Span>
+fn span_in(columns: &[usize], row: &Row, period: Option<Period>) -> Option<Span>
     ensures { option_map span_of result
-        ≡ in_values columns.now (map datum_of_value row.now) (fitting_if (option_map points_of period)) }
+        ≡ in_values columns.now row.now (fitting_if (option_map points_of period)) }
 {
     match group_of_row(columns, row) {
         Some(group) => Some(placed_if(group, period)),
@@ -119,9 +120,9 @@ fn span_alone(period: Option<Period>) -> Option<Span>
 impl Basis {
     /// Returns the span under which a row is indexed. It is `None` if a key value is NULL, or if the key is a period
     /// alone that does not start before it ends.
-    pub(crate) fn span(&self, row: &[Value], during: Period) -> Option<Span>
+    pub(crate) fn span(&self, row: &Row, during: Period) -> Option<Span>
         ensures { option_map span_of result
-            ≡ stands_by (basis_of self.now) (filed (map datum_of_value row.now) (points_of during)) }
+            ≡ stands_by (basis_of self.now) (filed row.now (points_of during)) }
     {
         match self {
             Basis::Values(columns) => span_in(columns, row, None),
@@ -183,8 +184,8 @@ impl Basis {
 
 impl Sought<'_> {
     /// Whether the lookup matches a row.
-    pub fn takes(self, row: &[Value]) -> bool
-        ensures { result ≡ is_sought (sought_of self.entry) (map datum_of_value row.now) }
+    pub fn takes(self, row: &Row) -> bool
+        ensures { result ≡ is_sought (sought_of self.entry) row.now }
     {
         match self {
             Sought::With(columns, tuple) => has_values(columns, tuple, row),
@@ -196,7 +197,7 @@ impl Sought<'_> {
                 None => false,
             },
             Sought::Sharing(start, end, other) => shares(start, end, row, other),
-            Sought::Between(column, low, high) => is_between(cell(row, column), low, high),
+            Sought::Between(column, low, high) => is_between(row.column(column), low, high),
         }
     }
 }

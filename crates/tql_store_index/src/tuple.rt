@@ -3,9 +3,8 @@ ghost use Rattle.std.specs.Prelude.{◌≡◌, if◌then◌else◌, None, Some, 
 ghost use Rattle.std.specs.List.{fold, list_any};
 ghost use Rattle.tql_spec.specs.Truth.{is_true as holds_true};
 ghost use Rattle.tql_spec.specs.Datum.{compare as compared, Equals, is_null as null_of};
-ghost use Rattle.tql_spec.specs.Definition.{cell as cell_of};
 ghost use Rattle.tql_period.specs.Points.{points_of};
-ghost use Rattle.tql_value.specs.Views.{datum_of_value, datum_of_view};
+ghost use Rattle.tql_value.specs.Views.{datum_of_view};
 ghost use Rattle.tql_index.specs.Spans.{span_of, in_group};
 ghost use Rattle.tql_store_index.specs.Places.{fitting, fitting_if};
 ghost use Rattle.tql_store_index.specs.Tuple.{is_at, mixed as mixed_of, mixed_with as mixed_with_of, digest};
@@ -13,19 +12,10 @@ ghost use Rattle.tql_store_index.specs.Tuple.{group_of, in_columns};
 
 use tql_index::span::Span;
 use tql_period::period::Period;
+use tql_row::row::Row;
 use tql_value::comparison::{Comparison, compare};
 use tql_value::truth::Truth;
-use tql_value::value::{Value, View};
-
-/// Returns the value in a column, or NULL past the last column.
-pub(crate) fn cell(row: &[Value], column: usize) -> View<'_>
-    ensures { datum_of_view result ≡ cell_of (map datum_of_value row.now) column }
-{
-    match row.get(column) {
-        Some(value) => value.view(),
-        None => View::Null,
-    }
-}
+use tql_value::value::View;
 
 /// Whether two values are equal; NULL equals nothing.
 fn equals(a: View<'_>, b: View<'_>) -> bool
@@ -35,13 +25,13 @@ fn equals(a: View<'_>, b: View<'_>) -> bool
 }
 
 /// Whether the values in these columns of a row equal those of the tuple; NULL equals nothing.
-pub(crate) fn has_values(columns: &[usize], tuple: &[View<'_>], row: &[Value]) -> bool
-    ensures { result ≡ is_at columns.now (map datum_of_view tuple.now) (map datum_of_value row.now) }
+pub(crate) fn has_values(columns: &[usize], tuple: &[View<'_>], row: &Row) -> bool
+    ensures { result ≡ is_at columns.now (map datum_of_view tuple.now) row.now }
 {
     match (columns.split_first(), tuple.split_first()) {
         (None, None) => true,
         (Some((column, columns)), Some((wanted, tuple))) => {
-            equals(cell(row, *column), *wanted) && has_values(columns, tuple, row)
+            equals(row.column(*column), *wanted) && has_values(columns, tuple, row)
         }
         _ => false,
     }
@@ -79,13 +69,13 @@ fn mixed_with(number: u64, value: View<'_>) -> u64
 }
 
 /// Mixes the values in these columns of a row into the hash `number`.
-fn digest_of_row(number: u64, columns: &[usize], row: &[Value]) -> u64
-    ensures { result ≡ digest number (in_columns columns.now (map datum_of_value row.now)) }
+fn digest_of_row(number: u64, columns: &[usize], row: &Row) -> u64
+    ensures { result ≡ digest number (in_columns columns.now row.now) }
 {
     match columns.split_first() {
         None => number,
         Some((column, columns)) => {
-            digest_of_row(mixed_with(number, cell(row, *column)), columns, row)
+            digest_of_row(mixed_with(number, row.column(*column)), columns, row)
         }
     }
 }
@@ -101,20 +91,20 @@ fn digest_of_tuple(number: u64, tuple: &[View<'_>]) -> u64
 }
 
 /// Whether one of the values in these columns of a row is NULL.
-fn has_null(columns: &[usize], row: &[Value]) -> bool
-    ensures { result ≡ list_any null_of (in_columns columns.now (map datum_of_value row.now)) }
+fn has_null(columns: &[usize], row: &Row) -> bool
+    ensures { result ≡ list_any null_of (in_columns columns.now row.now) }
 {
     match columns.split_first() {
         None => false,
-        Some((column, columns)) => cell(row, *column).is_null() || has_null(columns, row),
+        Some((column, columns)) => row.column(*column).is_null() || has_null(columns, row),
     }
 }
 
 /// Returns the group of a row by its values in these columns, or `None` if one of them is NULL. Rows with the same
 /// values are in the same group; other rows may be in it too.
-pub(crate) fn group_of_row(columns: &[usize], row: &[Value]) -> Option<i64>
-    ensures { result ≡ (if list_any null_of (in_columns columns.now (map datum_of_value row.now)) then None
-        else Some (group_of (in_columns columns.now (map datum_of_value row.now)))) }
+pub(crate) fn group_of_row(columns: &[usize], row: &Row) -> Option<i64>
+    ensures { result ≡ (if list_any null_of (in_columns columns.now row.now) then None
+        else Some (group_of (in_columns columns.now row.now))) }
 {
     if has_null(columns, row) {
         None

@@ -9,7 +9,7 @@ ghost use Rattle.tql_store_index.specs.Seating.{seat_at};
 ghost use Rattle.tql_store_index.specs.Standing.{passes, seats_if, stands};
 ghost use Rattle.tql_store_index.specs.ValueIndexes.{Each, IsGrown, IsTurned, IsLinked, DiffersIn, AreLoose};
 ghost use Rattle.tql_store_index.specs.ValueIndexes.{IsFoundBy, index_at};
-ghost use Rattle.tql_value.specs.Views.{datum_of_value, datum_of_view};
+ghost use Rattle.tql_value.specs.Views.{datum_of_view};
 
 use crate::basis::{Basis, Sought};
 use crate::seat_index::SeatIndex;
@@ -21,7 +21,8 @@ use tql_index::index::IntervalIndex;
 use tql_index::span::Span;
 use tql_memory::Memory;
 use tql_period::period::Period;
-use tql_value::value::{Value, View};
+use tql_row::row::Row;
+use tql_value::value::View;
 
 /// An index: its definition, and the period under which each row slot is indexed.
 #[derive(Drop)]
@@ -62,13 +63,13 @@ impl<I: IntervalIndex> ValueIndex<I> {
     }
 
     /// Enters a row under its row slot. If out of memory, nothing changes.
-    fn enter(&mut self, seat: usize, row: &[Value], during: Period) -> Result<(), AllocError>
+    fn enter(&mut self, seat: usize, row: &Row, during: Period) -> Result<(), AllocError>
         requires there { seat < length self.old.standing }
         requires loose { stands self.old.standing seat ≡ None }
         ensures ok { OnOk result (self.new ≡ record {
           basis = self.old.basis;
           standing = slice_set self.old.standing seat (stands_by self.old.basis
-              (filed (map datum_of_value row.now) (points_of during)));
+              (filed row.now (points_of during)));
         }) }
         ensures err { OnErr result (self.new ≡ self.old) }
     {
@@ -206,7 +207,7 @@ fn enter_each<I: IntervalIndex>(
     indexes: &mut [ValueIndex<I>],
     seats: &Seats,
     place: usize,
-    row: &[Value],
+    row: &Row,
     during: Period,
 ) -> Result<(), AllocError>
     requires there { place < length seats.now.seats }
@@ -217,7 +218,7 @@ fn enter_each<I: IntervalIndex>(
     ensures each { Each (IsTurned place (place + 1) seats.now) indexes.old indexes.new }
     ensures came { OnOk result ((i : _) → i < length indexes.old
         → stands (index_at indexes.new i).standing (seat_at seats.now place)
-        ≡ stands_by (index_at indexes.old i).basis (filed (map datum_of_value row.now) (points_of during))) }
+        ≡ stands_by (index_at indexes.old i).basis (filed row.now (points_of during))) }
 {
     let seat = seats.seat(place);
     for i in 0..indexes.len() {
@@ -303,7 +304,7 @@ impl<I: IntervalIndex> ValueIndexes<I> {
         &mut self,
         seats: &Seats,
         place: usize,
-        row: &[Value],
+        row: &Row,
         during: Period,
     ) -> Result<(), AllocError>
         requires there { place < length seats.now.seats }
@@ -313,7 +314,7 @@ impl<I: IntervalIndex> ValueIndexes<I> {
         ensures each { Each (IsTurned place (place + 1) seats.now) self.old self.new }
         ensures came { OnOk result ((i : _) → i < length self.old
             → stands (index_at self.new i).standing (seat_at seats.now place)
-            ≡ stands_by (index_at self.old i).basis (filed (map datum_of_value row.now) (points_of during))) }
+            ≡ stands_by (index_at self.old i).basis (filed row.now (points_of during))) }
     {
         enter_each(&mut self.indexes, seats, place, row, during)
     }

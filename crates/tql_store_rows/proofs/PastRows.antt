@@ -2,14 +2,13 @@
 use Rattle.std.proofs.Common.{◌≡◌, ℕ, zero, suc, ◌+◌, ◌<◌, ◌≤◌, Bool, true, false, List, [], ◌∷◌, ◌++◌, map, get_or}
 use Rattle.std.proofs.Common.{length, length-append, append-nil, append_assoc, refl, sym, ap, subst, ◌∙◌, arith}
 use Rattle.std.proofs.Common.{inl, inr, take}
-use Rattle.std.specs.Prelude.{◌⊎◌, All, Contains, ℤ, Option, Some, None, Vec, max, nat_lt, not, if◌then◌else◌}
+use Rattle.std.specs.Prelude.{◌⊎◌, All, Contains, ℤ, Option, Some, None, max, nat_lt, not, if◌then◌else◌}
 use Rattle.std.proofs.lemmas.List.{map-append, length-map, get_or_append_left, get_or-map}
 use Rattle.std.proofs.lemmas.List.Elements.{All-append, All-filter, All-nil, Contains-get_or, filter_passes}
 use Rattle.std.proofs.lemmas.Bool.Decides.{nat_tests}
+use Rattle.tql_spec.specs.Datum.{Row}
 use Rattle.tql_spec.specs.Definition.{Version}
 use Rattle.tql_spec.specs.Period.{Period}
-use Rattle.tql_value.specs.Views.{datum_of_value}
-use Rattle.tql_value.specs.declared.value.Value.{Value}
 use Rattle.tql_store_index.specs.Basis.{Filed, filed, stands_by}
 use Rattle.tql_store_index.specs.Seating.{Seating, AreGrown}
 use Rattle.tql_store_index.specs.ValueIndexes.{ValueIndex, index_at, Each, AreLoose, IsGrown, IsTurned}
@@ -35,12 +34,12 @@ pub at_read : (ks : List Kept) (i : ℕ) (v : Kept) → i < length ks → v ≡ 
 at_read ks i v l read = get_or-map version_of ks i v nothing l ∙ ap version_of (sym read)
 
 -- the row that the code reads at the next position, with its period attached
-pub place_read : (ks : List Kept) (places : List ℕ) (j : ℕ) (v : Kept) (until : Option ℤ) (now : List Value)
+pub place_read : (ks : List Kept) (places : List ℕ) (j : ℕ) (v : Kept) (until : Option ℤ) (now : Row)
     (x : Period) (none : Filed) → j < length places → get_or places j 0 < length ks
-    → v ≡ get_or ks (get_or places j 0) v → now ≡ v.row.items → x ≡ (past_of (ending until (version_of v))).during
-    → filed (map datum_of_value now) x ≡ get_or (pasts_at until places (versions_of ks)) j none
+    → v ≡ get_or ks (get_or places j 0) v → now ≡ v.row → x ≡ (past_of (ending until (version_of v))).during
+    → filed now x ≡ get_or (pasts_at until places (versions_of ks)) j none
 place_read ks places j v until now x none l within read is e =
-    ap (λ (vs : List Value). filed (map datum_of_value vs) x) is ∙ ap (filed (version_of v).row.cells) e
+    ap (λ (r : Row). filed r x) is ∙ ap (filed (version_of v).row.cells) e
     ∙ cells until (version_of v)
     ∙ ap (λ (w : Version). past_of (ending until w)) (sym (at_read ks (get_or places j 0) v within read))
     ∙ sym (get_or-map (λ i. past_of (ending until (version_at (versions_of ks) i))) places j 0 none l)
@@ -149,10 +148,10 @@ past-length true current ended closed e =
 past-length false current ended closed e = absurd (cc)
 
 -- the past rows before a change, with those of the versions that it ends, are the past rows after it
-past_changed : {A : Type 0} (keeps : Bool) (m : ℤ) (removed more : List ℕ) (rows : List (Vec Value A))
+past_changed : (keeps : Bool) (m : ℤ) (removed more : List ℕ) (rows : List Row)
     (old new : List Version) (gone : List ℕ) (closed : List Version) → All (λ i. i < length old) gone
     → All (λ i. (version_at old i).end ≡ m) gone → All (λ i. i < length old) more → All (Contains removed) more
-    → new ≡ closing m removed old ++ map (λ row. fresh m (map datum_of_value row.items)) rows
+    → new ≡ closing m removed old ++ map (fresh m) rows
     → past_rows keeps old gone closed ++ (if keeps then pasts_at (Some m) more old else [])
     ≡ past_rows keeps new (gone ++ more) closed
 past_changed true m removed more rows old new gone closed low shut within listed e =
@@ -166,7 +165,7 @@ past_changed true m removed more rows old new gone closed low shut within listed
   where
     here : (k : ℕ) → k < length old → version_at new k ≡ version_at (closing m removed old) k
     here k l = ap (λ vs. version_at vs k) e
-        ∙ get_or_append_left (closing m removed old) (map (λ row. fresh m (map datum_of_value row.items)) rows) nothing
+        ∙ get_or_append_left (closing m removed old) (map (fresh m) rows) nothing
         k (let n = length-closing m removed old in omega (arith, n, l))
 
     kept : (k : ℕ) → k < length old → (version_at old k).end ≡ m
@@ -254,11 +253,11 @@ more_stand keeps n m t past before versions more places ended closed later at e 
     ++ (if keeps then pasts_at (Some m) more (versions_of before) else [])) g)) h
 
 -- the same, in terms of the versions after the change
-pub change_past : {A : Type 0} (keeps : Bool) (m : ℤ) (h : TableModel) (t : Seating) (past : List ValueIndex)
+pub change_past : (keeps : Bool) (m : ℤ) (h : TableModel) (t : Seating) (past : List ValueIndex)
     (before : List Kept) (new : List Version) (removed : List ℕ) (base : ℕ) (ended all : List ℕ) (closed : List Version)
-    (rows : List (Vec Value A)) → InTurn m h → versions_of before ≡ h.current → ended ≡ h.ended
+    (rows : List Row) → InTurn m h → versions_of before ≡ h.current → ended ≡ h.ended
     → All (λ i. i < length h.current) removed → all ≡ ended ++ below base removed
-    → new ≡ closing m removed h.current ++ map (λ row. fresh m (map datum_of_value row.items)) rows
+    → new ≡ closing m removed h.current ++ map (fresh m) rows
     → AreStanding t past (past_rows keeps (versions_of before) ended closed
     ++ (if keeps then pasts_at (Some m) (below base removed) (versions_of before) else []))
     → AreStanding t past (past_rows keeps new all closed)
@@ -365,13 +364,13 @@ cut_back all old new left n e f g = g ∙ ap (λ k. take k all) f ∙ ap (take (
     front (x ∷ xs) = ap (λ ys. x ∷ ys) (front xs)
 
 -- the versions after a change, in terms of those before it
-pub made_of : {A : Type 0} (n m : ℤ) (removed : List ℕ) (old before : List Kept) (vs new : List Version)
-    (rows : List (Vec Value A)) → n ≡ m → old ≡ before → versions_of before ≡ vs
-    → new ≡ closing n removed (versions_of old) ++ map (λ row. fresh n (map datum_of_value row.items)) rows
-    → new ≡ closing m removed vs ++ map (λ row. fresh m (map datum_of_value row.items)) rows
+pub made_of : (n m : ℤ) (removed : List ℕ) (old before : List Kept) (vs new : List Version)
+    (rows : List Row) → n ≡ m → old ≡ before → versions_of before ≡ vs
+    → new ≡ closing n removed (versions_of old) ++ map (fresh n) rows
+    → new ≡ closing m removed vs ++ map (fresh m) rows
 made_of n m removed old before vs new rows e f g h =
     h ∙ ap (λ (x : ℤ). closing x removed (versions_of old)
-    ++ map (λ row. fresh x (map datum_of_value row.items)) rows) e
+    ++ map (fresh x) rows) e
     ∙ ap (λ (ks : List Kept). closing m removed (versions_of ks)
-    ++ map (λ row. fresh m (map datum_of_value row.items)) rows) f
-    ∙ ap (λ us. closing m removed us ++ map (λ row. fresh m (map datum_of_value row.items)) rows) g
+    ++ map (fresh m) rows) f
+    ∙ ap (λ us. closing m removed us ++ map (fresh m) rows) g

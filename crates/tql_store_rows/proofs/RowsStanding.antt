@@ -1,18 +1,17 @@
 -- Index entries of current rows when rows are added, removed and moved.
-use Rattle.std.proofs.Common.{◌≡◌, ℕ, zero, suc, ◌+◌, ◌-◌, ◌<◌, ◌≤◌, Bool, true, false, List, [], ◌∷◌, ◌++◌, map}
+use Rattle.std.proofs.Common.{◌≡◌, ℕ, zero, suc, ◌+◌, ◌-◌, ◌<◌, ◌≤◌, Bool, true, false, List, [], ◌∷◌, ◌++◌}
 use Rattle.std.proofs.Common.{get_or, set, take, drop, length, length-append, refl, sym, ap, subst, ◌∙◌, arith, inl}
 use Rattle.std.proofs.Common.{inr}
-use Rattle.std.specs.Prelude.{◌⊎◌, ◌≢◌, Option, None, Contains, All, ℤ, if◌then◌else◌, Vec, max}
+use Rattle.std.specs.Prelude.{◌⊎◌, ◌≢◌, Option, None, Contains, All, ℤ, if◌then◌else◌, max}
 use Rattle.std.proofs.lemmas.Bool.{cases_lt}
 use Rattle.std.proofs.lemmas.List.{map-append, length-map, get_or_append_left, get_or-append_right, get_or-map}
 use Rattle.std.specs.List.{swap_remove}
 use Rattle.std.proofs.lemmas.List.{get_or_default, get_or-take, take_more, length-take, length-set}
 use Rattle.std.proofs.lemmas.List.{get_or-set_same, get_or-set_other}
 use Rattle.std.proofs.lemmas.List.Elements.{Contains-append_cases, Contains-append_left, Contains-append_right}
+use Rattle.tql_spec.specs.Datum.{Row}
 use Rattle.tql_spec.specs.Definition.{Version}
 use Rattle.tql_spec.specs.Period.{Period}
-use Rattle.tql_value.specs.Views.{datum_of_value}
-use Rattle.tql_value.specs.declared.value.Value.{Value}
 use Rattle.tql_store_index.proofs.Linking.{same_turned}
 use Rattle.tql_store_index.proofs.Seated.{apart}
 use Rattle.tql_store_index.specs.ValueIndexes.{ValueIndex, index_at, Each, IsLinked, DiffersIn, AreLoose, IsGrown}
@@ -199,13 +198,11 @@ all_stopped from j n rows s old now new l t a = (
 )
 
 -- the row that the code reads
-pub cells_read : {A : Type 0} (rows items : List (Vec Value A)) (j : ℕ) (r : Vec Value A) (now : List Value)
-    (none : Filed) → j < length items → items ≡ rows → r ≡ get_or items j r → now ≡ r.items
-    → filed (map datum_of_value now) whole ≡ get_or (cells_of rows) j none
-cells_read rows items j r now none l e read is =
-    ap (λ (vs : List Value). filed (map datum_of_value vs) whole) is
-    ∙ ap (λ (v : Vec Value _). filed (map datum_of_value v.items) whole) read
-    ∙ sym (get_or-map (λ (v : Vec Value _). filed (map datum_of_value v.items) whole) items j r none l)
+pub cells_read : (rows items : List Row) (j : ℕ) (r : Row) (none : Filed) → j < length items → items ≡ rows
+    → r ≡ get_or items j r → filed r whole ≡ get_or (cells_of rows) j none
+cells_read rows items j r none l e read =
+    ap (λ (v : Row). filed v whole) read
+    ∙ sym (get_or-map (λ (v : Row). filed v whole) items j r none l)
     ∙ ap (λ rs. get_or (cells_of rs) j none) e
 
 -- the slot of the next position is still empty in each index
@@ -274,16 +271,16 @@ standing_more s old new rows added from e room coming h = record {
       x.turned.differs) (λ j k. x.came j (omega (arith, k, size))) (h.each i m)));
 }
 
-pub cells-length : {A : Type 0} (rows : List (Vec Value A)) → length (cells_of rows) ≡ length rows
-cells-length rows = length-map rows (λ row. filed (map datum_of_value row.items) whole)
+pub cells-length : (rows : List Row) → length (cells_of rows) ≡ length rows
+cells-length rows = length-map rows (λ (row : Row). filed row whole)
 
 kept-rows : (ks : List Kept) → length (rows_of (versions_of ks)) ≡ length ks
 kept-rows [] = refl
 kept-rows (k ∷ ks) = ap suc (kept-rows ks)
 
 -- after the slots and indexes have grown, the new rows are entered
-pub standing_entered : {A : Type 0} (s t : Seating) (old grown new : List ValueIndex) (ks : List Kept)
-    (added : List (Vec Value A)) (from to : ℕ) → length ks ≡ from → to ≡ from + length added → AreGrown s t
+pub standing_entered : (s t : Seating) (old grown new : List ValueIndex) (ks : List Kept)
+    (added : List Row) (from to : ℕ) → length ks ≡ from → to ≡ from + length added → AreGrown s t
     → length t.seats ≤ max (length s.seats) to → to ≤ length t.seats → Each IsGrown old grown
     → ((i : ℕ) → i < length old → to ≤ length (index_at grown i).standing)
     → Each (IsComing from (length added) (cells_of added) t) grown new

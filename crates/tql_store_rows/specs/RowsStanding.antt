@@ -1,13 +1,11 @@
 -- Where the rows of a table are entered in each of its indexes.
 use Rattle.std.specs.Prelude.{◌≡◌, ℕ, ◌+◌, ◌<◌, ◌≤◌, ◌⊎◌, false, if◌then◌else◌, List, [], ◌++◌, map, length}
 use Rattle.std.specs.Prelude.{All, Bool, Option, Some, None, filter, ℤ, ◌<ℤ◌}
-use Rattle.std.specs.Prelude.{Contains, Vec}
+use Rattle.std.specs.Prelude.{Contains}
 use Rattle.tql_spec.specs.Bag.{SameBag}
 use Rattle.tql_spec.specs.Datum.{Row}
 use Rattle.tql_spec.specs.Definition.{Version}
 use Rattle.tql_spec.specs.Period.{Period}
-use Rattle.tql_value.specs.Views.{datum_of_value}
-use Rattle.tql_value.specs.declared.value.Value.{Value}
 use Rattle.tql_store_index.specs.Basis.{Basis, Filed, filed, stands_by}
 use Rattle.tql_store_index.specs.Places.{whole}
 use Rattle.tql_store_index.specs.Seating.{Seating, seat_at}
@@ -21,8 +19,8 @@ abbrev pub rows_of : List Version → List Filed
 rows_of vs = map (λ (v : Version). filed v.row.cells whole) vs
 
 -- new rows, each with the period of all moments attached
-abbrev pub cells_of : {A : Type 0} → List (Vec Value A) → List Filed
-cells_of rows = map (λ row. filed (map datum_of_value row.items) whole) rows
+abbrev pub cells_of : List Row → List Filed
+cells_of rows = map (λ row. filed row whole) rows
 
 -- the row of a version, with its period attached
 abbrev pub past_of : Version → Filed

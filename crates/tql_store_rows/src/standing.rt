@@ -9,10 +9,10 @@ use std::alloc::AllocError;
 use tql_index::index::IntervalIndex;
 use tql_memory::Memory;
 use tql_period::period::Period;
+use tql_row::row::Row;
 use tql_store_index::basis::Basis;
 use tql_store_index::seats::Seats;
 use tql_store_index::value_indexes::ValueIndexes;
-use tql_value::value::Value;
 use tql_versions::kept::{Kept, is_open};
 
 /// Every moment and day: the period attached to a current row. No index of current rows uses it.
@@ -65,7 +65,7 @@ fn enter_each<I: IntervalIndex>(
     indexes: &mut ValueIndexes<I>,
     seats: &Seats,
     from: usize,
-    rows: &Vec<Vec<Value, Memory>, Memory>,
+    rows: &Vec<Row, Memory>,
 ) -> Result<(), AllocError>
     requires fits { from + vec_len rows.now < 2 ^ 64 }
     requires room { from + length rows.now.items ≤ length seats.now.seats }
@@ -88,7 +88,7 @@ pub fn enter_rows<I: IntervalIndex>(
     seats: &mut Seats,
     indexes: &mut ValueIndexes<I>,
     versions: &Vec<Kept, Memory>,
-    rows: &Vec<Vec<Value, Memory>, Memory>,
+    rows: &Vec<Row, Memory>,
 ) -> Result<(), AllocError>
     requires fits { vec_len versions.now + vec_len rows.now < 2 ^ 64 }
     requires standing { AreStanding seats.old indexes.old (rows_of (versions_of versions.now.items)) }
@@ -115,7 +115,7 @@ pub fn leave_back<I: IntervalIndex>(
     indexes: &mut ValueIndexes<I>,
     seats: &Seats,
     versions: &Vec<Kept, Memory>,
-    rows: &Vec<Vec<Value, Memory>, Memory>,
+    rows: &Vec<Row, Memory>,
 )
     requires fits { vec_len versions.now + vec_len rows.now < 2 ^ 64 }
     requires standing { AreStanding seats.now indexes.old

@@ -6,7 +6,6 @@ use Rattle.std.specs.Int.{int_min}
 use Rattle.tql_spec.specs.Calendar.{high}
 use Rattle.tql_spec.specs.Definition as definition
 use Rattle.tql_spec.specs.Period.{Period, holds as held, share_a_point}
-use Rattle.tql_value.specs.Views.{datum_of_value}
 use Rattle.tql_value.specs.declared.when.When.{When}
 use Rattle.tql_value.specs.declared.when.When.TheVariants.{Now, AsOf, FromTo, Between}
 use Rattle.tql_versions.specs.declared.version.Version.{Version}
@@ -49,7 +48,7 @@ pub record Answer : Type 0 where
 
 -- the version that a reading shows
 abbrev pub version_shown : Version → definition.Version
-version_shown s = record { row = record { cells = map datum_of_value s.row.now; start = s.start }; end = s.end }
+version_shown s = record { row = record { cells = s.kept.now.row; start = s.kept.now.start }; end = s.end }
 
 -- the version that a reading shows, with its id
 abbrev pub answer_of : Version → Answer

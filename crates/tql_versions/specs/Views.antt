@@ -1,13 +1,12 @@
 -- What the types of the code represent.
 use Rattle.std.specs.Prelude.{◌≡◌, ℕ, true, List, map, slice_index_or}
 use Rattle.tql_spec.specs.Definition as definition
-use Rattle.tql_value.specs.Views.{datum_of_value}
 use Rattle.tql_versions.specs.declared.kept.Kept.{Kept}
 use Rattle.tql_versions.specs.Changes.{is_current}
 
 -- a stored version
 abbrev pub version_of : Kept → definition.Version
-version_of k = record { row = record { cells = map datum_of_value k.row.items; start = k.start }; end = k.end }
+version_of k = record { row = record { cells = k.row; start = k.start }; end = k.end }
 
 abbrev pub versions_of : List Kept → List definition.Version
 versions_of ks = map version_of ks

@@ -3,7 +3,6 @@ ghost use Rattle.std.specs.Prelude.{◌≡◌, ◌≤◌, ◌<◌, ◌+◌, ◌+
 ghost use Rattle.std.specs.Prelude.{false, true, if◌then◌else◌, vec_len, vec_capacity, ◌<ℤ◌};
 ghost use Rattle.tql_spec.specs.Calendar.{high};
 ghost use Rattle.tql_period.specs.Points.{points_of};
-ghost use Rattle.tql_value.specs.Views.{datum_of_value};
 ghost use Rattle.tql_versions.specs.Changes.{alive, is_current, closing, fresh, ended, moved_out, emptied, taken};
 ghost use Rattle.tql_versions.specs.Marks.{below, from};
 ghost use Rattle.tql_versions.specs.Readings.{period_of};
@@ -14,13 +13,13 @@ use std::alloc::AllocError;
 use std::mem;
 use tql_memory::Memory;
 use tql_period::period::Period;
-use tql_value::value::Value;
+use tql_row::row::Row;
 
 /// A stored version.
 #[derive(Drop)]
 pub struct Kept {
     /// Its cells, without the generated columns.
-    pub row: Vec<Value, Memory>,
+    pub row: Row,
     /// Start of its period, in microseconds since 1970-01-01.
     pub start: i64,
     /// End of its period (exclusive); `HIGH` while the version is not closed.
@@ -56,7 +55,7 @@ fn take_version(version: &mut Kept, memory: Memory, moment: i64) -> Kept
     mem::replace(
         version,
         Kept {
-            row: Vec::new(memory),
+            row: Row::empty(memory),
             start: moment,
             end: moment,
         },
@@ -84,10 +83,10 @@ pub fn reopen_each(versions: &mut [Kept], places: &[usize])
 }
 
 /// Adds a version for each row, beginning at the moment. Allocates no memory.
-fn add_each(versions: &mut Vec<Kept, Memory>, added: Vec<Vec<Value, Memory>, Memory>, moment: i64)
+fn add_each(versions: &mut Vec<Kept, Memory>, added: Vec<Row, Memory>, moment: i64)
     requires { vec_len versions.old + vec_len added ≤ vec_capacity versions.old }
     ensures { versions_of versions.new.items ≡ versions_of versions.old.items
-        ++ map (λ row. fresh moment (map datum_of_value row.items)) added.entry.items }
+        ++ map (fresh moment) added.entry.items }
 {
     for row in added {
         versions.push_reserved(Kept {
@@ -102,13 +101,13 @@ fn add_each(versions: &mut Vec<Kept, Memory>, added: Vec<Vec<Value, Memory>, Mem
 pub fn replace(
     versions: &mut Vec<Kept, Memory>,
     removed: &[usize],
-    added: Vec<Vec<Value, Memory>, Memory>,
+    added: Vec<Row, Memory>,
     moment: i64,
 )
     requires within { All (λ i. i < length versions.old.items) removed.now }
     requires room { vec_len versions.old + vec_len added ≤ vec_capacity versions.old }
     ensures { versions_of versions.new.items ≡ closing moment removed.now (versions_of versions.old.items)
-        ++ map (λ row. fresh moment (map datum_of_value row.items)) added.entry.items }
+        ++ map (fresh moment) added.entry.items }
 {
     end_each(versions, removed, moment);
     add_each(versions, added, moment);

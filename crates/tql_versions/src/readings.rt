@@ -47,8 +47,7 @@ pub fn shown(id: usize, version: &Kept) -> Version<'_>
 {
     Version {
         id,
-        row: &version.row,
-        start: version.start,
+        kept: version,
         end: version.end,
     }
 }

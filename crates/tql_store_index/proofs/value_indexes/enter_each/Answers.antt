@@ -1,7 +1,6 @@
-use Rattle.std.proofs.Common.{◌≡◌, ◌<◌, ◌≤◌, length, map, rules, arith, sym, subst}
+use Rattle.std.proofs.Common.{◌≡◌, ◌<◌, ◌≤◌, length, rules, arith, sym, subst}
 use Rattle.std.specs.Prelude.{None, slice_index_or}
 use Rattle.std.proofs.lemmas.Grind.{common_steps}
-use Rattle.tql_value.specs.Views.{datum_of_value}
 use Rattle.tql_period.specs.Points.{points_of}
 use Rattle.tql_store_index.specs.Basis.{filed}
 use Rattle.tql_store_index.specs.Standing.{stands}
@@ -15,7 +14,7 @@ next : (g : given.Over) (c : goal.After-index-indexes-i g)
     → slice_index_or c.loop-i.indexes c.loop-i.i c.index-indexes-i.result ≡ index_at c.args.indexes.now c.loop-i.i
 next g c =
     unturned
-    (Entered c.args.place (filed (map datum_of_value c.args.row.now) (points_of c.args.during)) c.args.seats.now)
+    (Entered c.args.place (filed c.args.row.now (points_of c.args.during)) c.args.seats.now)
     c.loop-i.i c.args.indexes.now c.loop-i.indexes c.index-indexes-i.result
     (first_of (search rules, grind (arith, common_steps))) c.loop-i.invariant
 
@@ -34,7 +33,7 @@ enter-requires-clause-loose g c =
 pub loop-i-preserved : goal.loop-i-preserved
 loop-i-preserved g c =
     entered_at c.args.place c.seat-seat.result c.loop-i.i
-    (filed (map datum_of_value c.args.row.now) (points_of c.args.during)) c.args.seats.now c.args.indexes.now
+    (filed c.args.row.now (points_of c.args.during)) c.args.seats.now c.args.indexes.now
     c.loop-i.indexes c.index-indexes-i.result c.enter.new.self c.seat-seat.ensures.seated
     c.requires.there c.seat-seat.ensures.seat (first_of (search rules, grind (arith, common_steps))) c.requires.wide
     c.in_ok-enter.ensures.ok c.loop-i.invariant
@@ -42,14 +41,14 @@ loop-i-preserved g c =
 pub returns-in_err-enter-clause-each : goal.returns-in_err-enter-clause-each
 returns-in_err-enter-clause-each g c =
     refused_turned c.args.place c.loop-i.i
-    (filed (map datum_of_value c.args.row.now) (points_of c.args.during)) c.args.seats.now c.args.indexes.now
+    (filed c.args.row.now (points_of c.args.during)) c.args.seats.now c.args.indexes.now
     c.loop-i.indexes c.index-indexes-i.result c.enter.new.self (first_of (search rules, grind (arith, common_steps)))
     c.in_err-enter.ensures.err c.loop-i.invariant
 
 pub returns-clause-each : goal.returns-clause-each
 returns-clause-each g c =
     entered_turned c.args.place c.loop-i.i
-    (filed (map datum_of_value c.args.row.now) (points_of c.args.during)) c.args.seats.now c.args.indexes.now
+    (filed c.args.row.now (points_of c.args.during)) c.args.seats.now c.args.indexes.now
     c.loop-i.indexes c.loop-i.invariant
 
 pub returns-clause-came : goal.returns-clause-came

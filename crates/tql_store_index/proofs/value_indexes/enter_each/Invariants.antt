@@ -1,5 +1,3 @@
-use Rattle.std.proofs.Common.{map}
-use Rattle.tql_value.specs.Views.{datum_of_value}
 use Rattle.tql_period.specs.Points.{points_of}
 use Rattle.tql_store_index.specs.Basis.{filed}
 use Rattle.tql_store_index.proofs.Linking.{HaveTurned, Entered}
@@ -7,5 +5,5 @@ use Rattle.tql_store_index.proofs.value_indexes.enter_each.Given as goal
 
 -- the row was entered in the first i indexes
 abbrev pub invariant-loop-i : goal.invariant-loop-i
-invariant-loop-i g l = HaveTurned (Entered l.place (filed (map datum_of_value l.row) (points_of l.during)) l.seats) l.i
+invariant-loop-i g l = HaveTurned (Entered l.place (filed l.row (points_of l.during)) l.seats) l.i
     l.fn.indexes l.indexes

@@ -1,16 +1,15 @@
-use Rattle.std.proofs.Common.{◌≡◌, ◌≤◌, ◌+◌, ◌++◌, List, Vec, map, length}
+use Rattle.std.proofs.Common.{◌≡◌, ◌≤◌, ◌+◌, ◌++◌, List, map, length}
 use Rattle.std.specs.Prelude.{vec_len, vec_capacity, ℤ}
 use Rattle.std.specs.Vec.Iter.{into_iter_items}
-use Rattle.tql_value.specs.declared.value.Value.{Value}
-use Rattle.tql_value.specs.Views.{datum_of_value}
+use Rattle.tql_spec.specs.Datum as pure
 use Rattle.tql_spec.specs.Definition.{Version}
 use Rattle.tql_versions.specs.Changes.{fresh}
 use Rattle.tql_versions.specs.Views.{versions_of}
 use Rattle.tql_versions.proofs.kept.add_each.Given as goal
 
 -- the versions of the new rows
-abbrev pub fresh_versions : {A : Type 0} → ℤ → List (Vec Value A) → List Version
-fresh_versions moment rows = map (λ row. fresh moment (map datum_of_value row.items)) rows
+abbrev pub fresh_versions : ℤ → List pure.Row → List Version
+fresh_versions moment rows = map (fresh moment) rows
 
 -- the versions added so far, and those of the rest, are all; there is room for the rest
 abbrev pub invariant-loop-row : goal.invariant-loop-row

@@ -1,8 +1,6 @@
-use Rattle.std.proofs.Common.{map, slice_index_or, Vec, sym, ap, ◌∙◌}
+use Rattle.std.proofs.Common.{slice_index_or, sym, ap, ◌∙◌}
 use Rattle.std.proofs.Math.Facts.{to_z-of_z}
 use Rattle.tql_store_rows.specs.TableModel.{versions}
-use Rattle.tql_value.specs.declared.value.Value.{Value}
-use Rattle.tql_value.specs.Views.{datum_of_value}
 use Rattle.tql_store.proofs.Making.{on_err, kept-versions, kept-rest, ok-versions, ok-judged, noted-at}
 use Rattle.tql_store.proofs.Numbers.{element-at}
 use Rattle.tql_store.proofs.Turning.{turned}
@@ -57,7 +55,7 @@ returns-clause-noted g c =
 pub returns-clause-versions : goal.returns-clause-versions
 returns-clause-versions g c =
     let at = c.from-number.ensures ∙ c.number.ensures.value in
-    ok-versions (λ (row : Vec Value _). map datum_of_value row.items) c.args.self.added.items c.args.moment _
+    ok-versions c.args.self.added.items c.args.moment _
     c.from-number.result c.args.self.table c.args.rows.now
     (slice_index_or c.args.rows.now c.from-number.result c.index-rows-number.result) c.apply.new.self
     c.args.self.removed.items c.deref.result.now
@@ -69,7 +67,7 @@ returns-clause-versions g c =
 pub returns-clause-judged : goal.returns-clause-judged
 returns-clause-judged g c =
     let at = c.from-number.ensures ∙ c.number.ensures.value in
-    ok-judged (map (λ (row : Vec Value _). map datum_of_value row.items) c.args.self.added.items) c.args.moment _
+    ok-judged c.args.self.added.items c.args.moment _
     c.from-number.result c.args.self.table c.args.rows.now
     (slice_index_or c.args.rows.now c.from-number.result c.index-rows-number.result) c.apply.new.self
     c.args.self.removed.items c.deref.result.now

@@ -1,4 +1,4 @@
-use Rattle.std.proofs.Common.{map, Vec, w64, rules, sym, ap, subst, ◌∙◌}
+use Rattle.std.proofs.Common.{map, w64, rules, sym, ap, subst, ◌∙◌}
 use Rattle.std.proofs.Math.Facts.{to_z-of_z}
 use Rattle.std.proofs.lemmas.List.{with_items_is}
 use Rattle.tql_store.specs.StoreModel.{StoreModel}
@@ -9,8 +9,6 @@ use Rattle.tql_spec.specs.Definition.{Stamped}
 use Rattle.tql_versions.specs.Changes.{alive, closing, fresh, replaced}
 use Rattle.tql_store_rows.specs.TableModel as rows
 use Rattle.tql_store_rows.specs.TableModel.{InTurn, AreRemovable, IsJudged, versions, live}
-use Rattle.tql_value.specs.declared.value.Value.{Value}
-use Rattle.tql_value.specs.Views.{datum_of_value}
 use Rattle.tql_store.specs.Orderly.{table_at, HasTurned}
 use Rattle.tql_store.specs.TableSlots.{slot_at, is_taken}
 use Rattle.tql_store.proofs.Making.{on_err, in-moment, change-store, refused-store}
@@ -95,7 +93,7 @@ returns-clause-ok g c =
     c.moment-moment.result (ap (λ (h : StoreModel). h.working) c.self.view_is) (to_z-of_z fits)
     c.moment-moment.ensures in
     let value = c.deref_mut.ensures.value in
-    replaces-at (λ (row : Vec Value _). map datum_of_value row.items) c.args.delta.added.items
+    replaces-at c.args.delta.added.items
     (to_z w64 (of_z w64 c.moment-moment.result)) c.self.inside.horizon c.self.inside.working c.self.inside.last
     c.self.inside.places.items c.self.inside.rows.items c.make.new.rows c.self.inside.touched.items
     c.args.self.now _ c.args.delta.table c.args.delta.removed.items at c.self.invariant c.self.view_is
@@ -108,14 +106,12 @@ returns-clause-ok g c =
     (subst (λ (ts : List rows.TableModel). SameBag (live (table_at c.make.new.rows c.args.delta.table))
     (filter alive (closing (to_z w64 (of_z w64 c.moment-moment.result)) c.args.delta.removed.items
     (table_at ts c.args.delta.table).current ++ (table_at ts c.args.delta.table).closed) ++ map
-    (λ (row : Vec Value _). fresh (to_z w64 (of_z w64 c.moment-moment.result)) (map datum_of_value row.items))
-    c.args.delta.added.items)) value c.in_ok-make.ensures.versions)
+    (fresh (to_z w64 (of_z w64 c.moment-moment.result))) c.args.delta.added.items)) value c.in_ok-make.ensures.versions)
     (subst (λ (ts : List rows.TableModel). (gone : Stamped → Bool)
     → IsJudged gone c.args.delta.removed.items (table_at ts c.args.delta.table)
     → SameBag (live (table_at c.make.new.rows c.args.delta.table))
     (replaced (to_z w64 (of_z w64 c.moment-moment.result)) gone
-    (map (λ (row : Vec Value _). map datum_of_value row.items) c.args.delta.added.items)
-    (live (table_at ts c.args.delta.table)))) value c.in_ok-make.ensures.judged)
+    c.args.delta.added.items (live (table_at ts c.args.delta.table)))) value c.in_ok-make.ensures.judged)
 
 pub returns-clause-copies : goal.returns-clause-copies
 returns-clause-copies g c =
