@@ -7,3 +7,4 @@ pub mod ByPeriod
 pub mod OverSinks
 pub mod Crossed
 pub mod Counted
+pub mod Headings

@@ -6,14 +6,15 @@ ghost use Rattle.tql_spec.specs.Query.{alone, distinct_rows};
 ghost use Rattle.tql_spec.specs.QueryLaws.{shown};
 ghost use Rattle.tql_spec.specs.Words.{map_all};
 ghost use Rattle.tql_expr.specs.Evaluated.{Evaluated};
-ghost use Rattle.tql_expr.specs.Meaning.{cond, expr, HasCond, HasExpr};
+ghost use Rattle.tql_expr.specs.Meaning.{cond, expr, HasExpr};
 ghost use Rattle.tql_exec_numbered.specs.Numbered.{with_row, with_rows};
 
+use crate::listing::Listing;
 use tql_exec_join::sink::Sink;
 use tql_exec_join::tuple::Tuple;
 use tql_exec_numbered::numbered::Numbered;
 use tql_expr::columns::Columns;
-use tql_expr::terms::{CondId, ExprId, Terms};
+use tql_expr::terms::{ExprId, Terms};
 use tql_memory::Memory;
 use tql_value::refusal::Refusal;
 use tql_value::value::View;
@@ -65,11 +66,7 @@ fn put_many<C: Columns>(
 
 /// Puts the values of the items on a row among the rows if it passes the conjuncts. Refused if an evaluation that is
 /// reached overflows 64 bits, or if an allocation is refused.
-fn put_scope<C: Columns>(
-    asked: &Distinct<'_>,
-    scope: &C,
-    kept: &mut Numbered,
-) -> Result<(), Refusal>
+fn put_scope<C: Columns>(asked: &Listing<'_>, scope: &C, kept: &mut Numbered) -> Result<(), Refusal>
     ensures { Evaluated (λ _. kept.new) (option_map (with_rows kept.old)
         (shown (map (cond asked.now.terms.now) asked.now.having.now)
         (map (expr asked.now.terms.now) asked.now.items.now)
@@ -85,57 +82,32 @@ fn put_scope<C: Columns>(
     }
 }
 
-/// The items of a query with DISTINCT and without groups, and the conjuncts of HAVING.
+/// A query with DISTINCT and without groups.
 #[derive(Clone, Copy)]
 pub struct Distinct<'q> {
-    memory: Memory,
-    terms: &'q Terms,
-    having: &'q [CondId],
-    items: &'q [ExprId],
-    ghost judged: { All (HasCond terms.now) having.now },
-    ghost held: { All (HasExpr terms.now) items.now },
+    /// The same query without DISTINCT.
+    pub listing: Listing<'q>,
 }
 
 impl Sink for Distinct<'_> {
     type State = Numbered;
 
-    ghost knows = { λ l s rows. option_map distinct_rows (shown (map (cond l.terms.now) l.having.now)
-        (map (expr l.terms.now) l.items.now) (map alone rows)) ≡ Some s };
+    ghost knows = { λ l s rows. option_map distinct_rows (shown (map (cond l.listing.terms.now) l.listing.having.now)
+        (map (expr l.listing.terms.now) l.listing.items.now) (map alone rows)) ≡ Some s };
 
-    ghost gives = { λ l row. shown (map (cond l.terms.now) l.having.now) (map (expr l.terms.now) l.items.now)
-        (alone row ∷ []) };
+    ghost gives = { λ l row. shown (map (cond l.listing.terms.now) l.listing.having.now)
+        (map (expr l.listing.terms.now) l.listing.items.now) (alone row ∷ []) };
 
     fn take(&self, state: &mut Numbered, row: &Tuple<'_>) -> Result<(), Refusal> {
-        put_scope(self, row, state)
+        put_scope(&self.listing, row, state)
     }
 }
 
-impl<'q> Distinct<'q> {
-    /// Returns the sink of a query with DISTINCT and without groups.
-    pub fn new(
-        memory: Memory,
-        terms: &'q Terms,
-        having: &'q [CondId],
-        items: &'q [ExprId],
-    ) -> Distinct<'q>
-        requires having { All (HasCond terms.now) having.now }
-        requires items { All (HasExpr terms.now) items.now }
-        ensures terms { result.terms.now ≡ terms.now }
-        ensures having { result.having.now ≡ having.now }
-        ensures items { result.items.now ≡ items.now }
-    {
-        Distinct {
-            memory,
-            terms,
-            having,
-            items,
-        }
-    }
-
+impl Distinct<'_> {
     /// Returns the state before the first row. Makes no allocation.
     pub fn begin(&self) -> Numbered
         ensures { result ≡ [] }
     {
-        Numbered::new(self.memory)
+        Numbered::new(self.listing.memory)
     }
 }

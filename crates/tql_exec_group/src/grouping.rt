@@ -1,13 +1,12 @@
 //! GROUP BY, HAVING and the select list of a grouped query, as a sink: each row is folded into the accumulators of its
 //! group when it is handed over, so no list of the rows is kept. A group keeps its cells in the grouping columns and
 //! one accumulator for each aggregate of HAVING and the items.
-ghost use Rattle.std.specs.Prelude.{◌≡◌, ◌<◌, ◌++◌, ◌∷◌, [], All, IfErr, IfOk, length, List, map, MatchResult, OnOk};
+ghost use Rattle.std.specs.Prelude.{◌≡◌, ◌<◌, ◌∷◌, [], All, IfErr, IfOk, length, List, map, MatchResult, OnOk};
 ghost use Rattle.std.specs.Prelude.{slice_get, slice_index_or, Some};
 ghost use Rattle.tql_spec.specs.Datum.{Row};
 ghost use Rattle.tql_value.specs.Views.{row_of, rows_of};
 ghost use Rattle.tql_spec.specs.Query.{cells_at};
 ghost use Rattle.tql_expr.specs.Meaning.{HasOperand};
-ghost use Rattle.tql_expr.specs.declared.terms.Terms.{Terms as CodeTerms};
 ghost use Rattle.tql_exec_join.specs.Tuples.{tuple_row};
 ghost use Rattle.tql_exec_group.specs.Folded.{HaveFolded};
 ghost use Rattle.tql_exec_group.specs.Begun.{Begins, Enters, IsPart, TakesAt};

@@ -19,21 +19,17 @@ use tql_value::value::Value;
 /// Adds the values of the items on a row if it passes the conjuncts. Refused if an evaluation that is reached
 /// overflows 64 bits, or if an allocation is refused.
 fn add_scope<C: Columns>(
-    memory: Memory,
-    terms: &Terms,
-    having: &[CondId],
-    items: &[ExprId],
+    listing: &Listing<'_>,
     scope: &C,
     made: &mut Vec<Vec<Value, Memory>, Memory>,
 ) -> Result<(), Refusal>
-    requires having { All (HasCond terms.now) having.now }
-    requires items { All (HasExpr terms.now) items.now }
     ensures { Evaluated (λ _. rows_of made.new.items) (behind (rows_of made.old.items)
-        (shown (map (cond terms.now) having.now) (map (expr terms.now) items.now)
+        (shown (map (cond listing.now.terms.now) listing.now.having.now)
+        (map (expr listing.now.terms.now) listing.now.items.now)
         (record { row = C.values scope.now; group = C.group scope.now } ∷ []))) result }
 {
-    if terms.passes(having, scope)? {
-        let values = values_on(memory, terms, items, scope)?;
+    if listing.terms.passes(listing.having, scope)? {
+        let values = values_on(listing.memory, listing.terms, listing.items, scope)?;
         made.push(values)?;
     }
     Ok(())
@@ -42,54 +38,30 @@ fn add_scope<C: Columns>(
 /// The items of a query without groups, and the conjuncts of HAVING.
 #[derive(Clone, Copy)]
 pub struct Listing<'q> {
-    memory: Memory,
-    terms: &'q Terms,
-    having: &'q [CondId],
-    items: &'q [ExprId],
+    pub(crate) memory: Memory,
+    pub(crate) terms: &'q Terms,
+    pub(crate) having: &'q [CondId],
+    pub(crate) items: &'q [ExprId],
     ghost judged: { All (HasCond terms.now) having.now },
     ghost held: { All (HasExpr terms.now) items.now },
 }
 
-/// The values of the items on the rows so far that pass the conjuncts, in the order of the rows.
-pub struct Listed {
-    made: Vec<Vec<Value, Memory>, Memory>,
-}
-
-impl Drop for Listed {
-    fn drop(self) {
-        let Listed { made } = self;
-        drop(made);
-    }
-}
-
-impl Listed {
-    /// Returns the rows of the result.
-    pub fn rows(self) -> Vec<Vec<Value, Memory>, Memory>
-        ensures { result.items ≡ self.made.items }
-    {
-        let Listed { made } = self;
-        made
-    }
-}
-
 impl Sink for Listing<'_> {
-    type State = Listed;
+    /// The values of the items on the rows so far that pass the conjuncts, in the order of the rows.
+    type State = Vec<Vec<Value, Memory>, Memory>;
 
     ghost knows = { λ l s rows. shown (map (cond l.terms.now) l.having.now) (map (expr l.terms.now) l.items.now)
-        (map alone rows) ≡ Some (rows_of s.made.items) };
+        (map alone rows) ≡ Some (rows_of s.items) };
 
     ghost gives = { λ l row. shown (map (cond l.terms.now) l.having.now) (map (expr l.terms.now) l.items.now)
         (alone row ∷ []) };
 
-    fn take(&self, state: &mut Listed, row: &Tuple<'_>) -> Result<(), Refusal> {
-        add_scope(
-            self.memory,
-            self.terms,
-            self.having,
-            self.items,
-            row,
-            &mut state.made,
-        )
+    fn take(
+        &self,
+        state: &mut Vec<Vec<Value, Memory>, Memory>,
+        row: &Tuple<'_>,
+    ) -> Result<(), Refusal> {
+        add_scope(self, row, state)
     }
 }
 
@@ -116,11 +88,9 @@ impl<'q> Listing<'q> {
     }
 
     /// Returns the state before the first row. Makes no allocation.
-    pub fn begin(&self) -> Listed
-        ensures { result.made.items ≡ [] }
+    pub fn begin(&self) -> Vec<Vec<Value, Memory>, Memory>
+        ensures { result.items ≡ [] }
     {
-        Listed {
-            made: Vec::new(self.memory),
-        }
+        Vec::new(self.memory)
     }
 }

@@ -6,7 +6,7 @@ ghost use Rattle.std.specs.Prelude.{OnOk, slice_get, Some};
 ghost use Rattle.tql_spec.specs.Datum as pure;
 ghost use Rattle.tql_spec.specs.Expression as bound;
 ghost use Rattle.tql_spec.specs.Words.{map_all};
-ghost use Rattle.tql_value.specs.Views.{datum_of_value, datum_of_view, outcome, row_of, rows_of};
+ghost use Rattle.tql_value.specs.Views.{datum_of_view, outcome, row_of, rows_of};
 ghost use Rattle.tql_expr.specs.Evaluated.{behind, Evaluated};
 ghost use Rattle.tql_expr.specs.Meaning.{aggregate as tree_of, calculated, datum_at, judged, tested};
 ghost use Rattle.tql_expr.specs.Nodes.{reads_before};
@@ -157,18 +157,6 @@ fn truth_of(terms: &Terms, node: Node, results: Results<'_, '_>) -> Result<Truth
     }
 }
 
-/// Returns the value of the aggregate of an accumulator, by its index.
-fn told_at<'a>(folds: &'a [Accumulator], place: usize, which: Aggregate) -> Result<View<'a>, Range>
-    ensures { (t : CodeTerms) (rows : List pure.Row) (row : pure.Row) (a : CodeAccumulator)
-        → slice_get folds.now place ≡ Some a → HasFolded t which a rows
-        → outcome result ≡ bound.eval rows row (tree_of t which) }
-{
-    match folds.get(place) {
-        Some(fold) => fold.told(which),
-        None => Err(Range),
-    }
-}
-
 /// Returns the value of an expression, or of an aggregate, which is the next one.
 fn value_on<'a>(
     terms: &'a Terms,
@@ -189,7 +177,10 @@ fn value_on<'a>(
         → outcome result ≡ bound.eval rows row (tree_of t which) }
 {
     match aggregate_in(node) {
-        Some(which) => told_at(group.folds, next, which),
+        Some(which) => match group.folds.get(next) {
+            Some(fold) => fold.told(which),
+            None => Err(Range),
+        },
         None => value_of(terms, group, node, results),
     }
 }
@@ -250,14 +241,6 @@ fn passes_on(results: Results<'_, '_>, having: &[CondId]) -> Result<bool, Range>
     Ok(true)
 }
 
-/// Returns the value of the expression at a position. Refused if it is out of range, or if an allocation is refused.
-fn value_at(memory: Memory, results: Results<'_, '_>, at: usize) -> Result<Value, Refusal>
-    requires { LiesIn results.from (results.from + length results.found.now) at }
-    ensures { Evaluated datum_of_value (value_in results.entry.from results.entry.found.now at) result }
-{
-    results.value(at)?.to_value(memory)
-}
-
 /// Returns the values of the items. Refused if one is out of range, or if an allocation is refused.
 fn values_in(
     memory: Memory,
@@ -270,7 +253,7 @@ fn values_in(
 {
     let mut values = Vec::with_capacity(memory, items.len())?;
     for item in items {
-        values.push(value_at(memory, results, item.place)?)?;
+        values.push(results.value(item.place)?.to_value(memory)?)?;
     }
     Ok(values)
 }

@@ -1,7 +1,7 @@
 //! The nodes of HAVING and of the select list. They are collected once for a query, from the first that HAVING or an
 //! item reads to the last, so that each is evaluated once for a group, however often it is named.
 ghost use Rattle.std.specs.Prelude.{◌≡◌, ℕ, ◌+◌, ◌-◌, ◌<◌, ◌≤◌, ◌++◌, ◌∷◌, [], All, IfOk, IfSome, IsSome, IsTrue};
-ghost use Rattle.std.specs.Prelude.{length, OnOk};
+ghost use Rattle.std.specs.Prelude.{length, nat_le, OnOk};
 ghost use Rattle.tql_expr.specs.Meaning.{size, HasCond, HasExpr};
 ghost use Rattle.tql_exec_group.specs.Steps.{aggregate_of, aggregates_in, reads_from, AreSteps, IsStepped, LiesIn};
 
@@ -48,22 +48,10 @@ pub(crate) fn aggregate_in(node: Node) -> Option<Aggregate>
     }
 }
 
-/// Whether a node outside aggregates reads only nodes from this position on.
-fn is_read_from(from: usize, node: Node) -> bool
-    ensures { result ≡ reads_from from node }
+/// Returns the least position that a node outside aggregates reads. Returns `at` if it reads none.
+fn first_read(node: Node, at: usize) -> usize
+    ensures { (from : ℕ) → from ≤ at → reads_from from node ≡ nat_le from result }
 {
-    match node {
-        Node::Literal(_) | Node::Column(_) | Node::CountRows | Node::Aggregate(..) => true,
-        Node::Negate(a) | Node::IsNull(a) | Node::Not(a) => from <= a,
-        Node::Binary(_, a, b) | Node::Compare(_, a, b) => from <= a && from <= b,
-        Node::And(a, b) | Node::Or(a, b) => from <= a && from <= b,
-        Node::Related(_, a, b, c, d) => (from <= a && from <= b) && (from <= c && from <= d),
-        Node::ContainsPoint(a, b, c) => (from <= a && from <= b) && from <= c,
-    }
-}
-
-/// Returns the least position that a node outside aggregates reads, or its own.
-fn first_read(node: Node, at: usize) -> usize {
     match node {
         Node::Literal(_) | Node::Column(_) | Node::CountRows | Node::Aggregate(..) => at,
         Node::Negate(a) | Node::IsNull(a) | Node::Not(a) => a,
@@ -173,7 +161,7 @@ impl Steps {
         ensures whole { self.old.from ≡ 0 → IfOk result IsTrue }
     {
         let node = terms.node(at);
-        if !is_read_from(self.from, node) {
+        if first_read(node, self.from) < self.from {
             return Ok(false);
         }
         self.add(node)?;

@@ -7,6 +7,6 @@ use Rattle.tql_exec_group.proofs.distinct.DistinctSink.take.Goals as goal
 
 pub returns : goal.returns
 returns c =
-    let t = c.args.self.now.terms.now in
-    distinct_if (map (cond t) c.args.self.now.having.now) (map (expr t) c.args.self.now.items.now)
+    let t = c.args.self.now.listing.terms.now in
+    distinct_if (map (cond t) c.args.self.now.listing.having.now) (map (expr t) c.args.self.now.listing.items.now)
     (tuple_row c.args.row.now) c.args.state.now _ c.put_scope.result c.put_scope.ensures

@@ -10,4 +10,4 @@ pub returns : goal.returns
 returns c =
     let t = c.args.self.now.terms.now in
     listed_if (map (cond t) c.args.self.now.having.now) (map (expr t) c.args.self.now.items.now)
-    (tuple_row c.args.row.now) (rows_of c.args.state.now.made.items) _ c.add_scope.result c.add_scope.ensures
+    (tuple_row c.args.row.now) (rows_of c.args.state.now.items) _ c.add_scope.result c.add_scope.ensures
