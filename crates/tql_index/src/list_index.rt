@@ -1,49 +1,30 @@
 //! An index that is a plain list.
 ghost use Rattle.std.specs.Prelude.{◌≡◌, ◌↔◌, ◌<◌, [], length, map, slice_index_or, Contains, IsTrue, IfOk, IfSome};
 ghost use Rattle.std.specs.Prelude.{IfNone};
-ghost use Rattle.std.specs.Bool.{OnTrue, OnFalse};
 ghost use Rattle.tql_spec.specs.Bag.{SameBag};
 ghost use Rattle.tql_index.specs.Entry.{ids_sharing};
-ghost use Rattle.tql_index.specs.ListEntries.{entry_held};
+ghost use Rattle.tql_index.specs.Slots.{entry_of};
 ghost use Rattle.tql_index.specs.Spans.{points_between};
 
 use crate::index::{Id, IntervalIndex};
 use crate::line::Place;
 use crate::search::push_if;
+use crate::slot::Slot;
 use crate::span::Span;
 use std::alloc::AllocError;
 use std::marker::Model;
 use tql_memory::Memory;
 use tql_period::period::Period;
 
-// An entry of the list.
-#[derive(Clone, Copy)]
-struct ListEntry {
-    span: Span,
-    id: Id,
-}
-
-// Whether two entries are the same.
-fn is_same(entry: ListEntry, wanted: ListEntry) -> bool
-    ensures same { OnTrue result (entry_held entry ≡ entry_held wanted) }
-    ensures other { OnFalse result (¬ (entry_held entry ≡ entry_held wanted)) }
-{
-    entry
-        .span
-        .compare(wanted.span)
-        .then(entry.id.cmp(&wanted.id))
-        .is_eq()
-}
-
 // Returns the first position of an entry in the list, if it is there.
-fn place_of(entries: &[ListEntry], wanted: ListEntry) -> Option<usize>
+fn place_of(entries: &[Slot], wanted: Slot) -> Option<usize>
     ensures within { IfSome result (λ k. k < length entries.now) }
     ensures found { IfSome result (λ k. (d : _) →
-        entry_held (slice_index_or entries.now k d) ≡ entry_held wanted) }
-    ensures missing { IfNone result (¬ Contains (map entry_held entries.now) (entry_held wanted)) }
+        entry_of (slice_index_or entries.now k d) ≡ entry_of wanted) }
+    ensures missing { IfNone result (¬ Contains (map entry_of entries.now) (entry_of wanted)) }
 {
     for (place, entry) in entries.iter().enumerate() {
-        if is_same(*entry, wanted) {
+        if entry.compare(wanted).is_eq() {
             return Some(place);
         }
     }
@@ -54,18 +35,17 @@ fn place_of(entries: &[ListEntry], wanted: ListEntry) -> Option<usize>
 #[derive(Drop)]
 pub struct ListIndex {
     memory: Memory,
-    held: Vec<ListEntry, Memory>,
+    held: Vec<Slot, Memory>,
 }
 
 impl Model for ListIndex {
     ghost use Rattle.std.specs.Prelude.{List, map};
     ghost use Rattle.tql_index.specs.Entry.{Entry};
-    ghost use Rattle.std.specs.Bool.{OnTrue, OnFalse};
-    ghost use Rattle.tql_index.specs.ListEntries.{entry_held};
+    ghost use Rattle.tql_index.specs.Slots.{entry_of};
 
     ghost Value = { List Entry };
 
-    ghost view = { λ l. map entry_held l.held.items };
+    ghost view = { λ l. map entry_of l.held.items };
 }
 
 impl ListIndex {
@@ -122,12 +102,12 @@ impl IntervalIndex for ListIndex {
     }
 
     fn add_span(&mut self, span: Span, id: Id) -> Result<(), AllocError> {
-        self.held.push(ListEntry { span, id })?;
+        self.held.push(Slot { span, id })?;
         Ok(())
     }
 
     fn remove_span(&mut self, span: Span, id: Id) -> bool {
-        let Some(place) = place_of(&self.held, ListEntry { span, id }) else {
+        let Some(place) = place_of(&self.held, Slot { span, id }) else {
             return false;
         };
         self.held.swap_remove(place);

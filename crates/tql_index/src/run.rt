@@ -105,7 +105,8 @@ impl<A: Allocator> Model for Run<A> {
 
     ghost view = { λ r. entries_in r.slots.items };
 
-    ghost invariant = { λ r. IsRun (entries_in r.slots.items) (place_of r.ends.greatest) × HasEnds r.slots.items r.ends.first r.ends.last };
+    ghost invariant = { λ r. IsRun (entries_in r.slots.items) (place_of r.ends.greatest)
+        × HasEnds r.slots.items r.ends.first r.ends.last };
 }
 
 impl<A: Allocator> Run<A> {

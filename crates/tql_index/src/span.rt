@@ -13,7 +13,8 @@ use tql_period::period::Period;
 /// A period in a group.
 #[derive(Clone, Copy, PartialEq, Eq, Debug)]
 pub struct Span {
-    group: i64,
+    /// The group.
+    pub group: i64,
     period: Period,
 }
 
@@ -43,13 +44,6 @@ impl Span {
                 end: i64::MAX,
             },
         }
-    }
-
-    /// Returns the group.
-    pub fn group(self) -> i64
-        ensures { result ≡ self.group }
-    {
-        self.group
     }
 
     /// Whether the span shares a point with the line from one place up to another.

@@ -49,7 +49,7 @@ fn span_of_group(group: i64) -> Option<Span>
 fn group_of_span(span: Span) -> Option<i64>
     ensures { IfSome result (λ group. points_of_group group ≡ Some (span_of span)) }
 {
-    let group = span.group();
+    let group = span.group;
     if group != NO_GROUP && span == Span::all(group) {
         Some(group)
     } else {

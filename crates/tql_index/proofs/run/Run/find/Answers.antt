@@ -18,8 +18,8 @@ returns-then-not-is_before-clause-found g c =
     let q = λ (e : Entry). share_a_point e.period x in
     let n : int_lt x.start (place_of c.self.inside.ends.greatest) ≡ false =
     grind (arith, ints, c.is_before.ensures, c.if-not-is_before.true) in
-    nothing_here q x.start x.end (place_of c.self.inside.ends.greatest) c.args.self.now c.args.found.now.items (in_period x)
-    (c.self.invariant.0.greatest_is ∙ ap greatest_end c.self.view_is) n
+    nothing_here q x.start x.end (place_of c.self.inside.ends.greatest) c.args.self.now c.args.found.now.items
+    (in_period x) (c.self.invariant.0.greatest_is ∙ ap greatest_end c.self.view_is) n
 
 pub loop-slot-preserved : goal.loop-slot-preserved
 loop-slot-preserved g c =

@@ -29,8 +29,8 @@ invariant_of-self-2 g c =
             ∙ greatest_more e (entries_in ss) (entries_in ts) (place_of c.self.inside.ends.greatest)
             (place_of c.end.result) c.self.invariant.0.greatest_is c.end.ensures s;
       },
-      subst (λ (z : List Slot). HasEnds z c.ends_of-self-inside.result.first c.ends_of-self-inside.result.last) c.deref-2.ensures.value
-          c.ends_of-self-inside.ensures.ends,
+      subst (λ (z : List Slot). HasEnds z c.ends_of-self-inside.result.first c.ends_of-self-inside.result.last)
+          c.deref-2.ensures.value c.ends_of-self-inside.ensures.ends,
     )
 
 pub returns-clause-added : goal.returns-clause-added

@@ -83,7 +83,8 @@ invariant_of-self-in-Err g c =
     c.place_in-place.ensures in
     let l : k ≤ length ss = omega (arith, p.within, length-map ss entry_of) in
     let same : c.remove.new.self.items ≡ ss =
-    c.remove.ensures.items ∙ ap (λ (z : List Slot). remove z k) (c.in-Err.ensures.unchanged.0 ∙ c.in_ok-insert.ensures.items)
+    c.remove.ensures.items
+    ∙ ap (λ (z : List Slot). remove z k) (c.in-Err.ensures.unchanged.0 ∙ c.in_ok-insert.ensures.items)
     ∙ remove-insert ss k c.args.slot l in
     subst (λ (z : List Slot). IsRun (entries_in z) (place_of c.self.inside.ends.greatest)
     × HasEnds z c.self.inside.ends.first c.self.inside.ends.last) (sym same) c.self.invariant
@@ -97,6 +98,7 @@ returns-in-Err-clause-unchanged g c =
     c.place_in-place.ensures in
     let l : k ≤ length ss = omega (arith, p.within, length-map ss entry_of) in
     let same : c.remove.new.self.items ≡ ss =
-    c.remove.ensures.items ∙ ap (λ (z : List Slot). remove z k) (c.in-Err.ensures.unchanged.0 ∙ c.in_ok-insert.ensures.items)
+    c.remove.ensures.items
+    ∙ ap (λ (z : List Slot). remove z k) (c.in-Err.ensures.unchanged.0 ∙ c.in_ok-insert.ensures.items)
     ∙ remove-insert ss k c.args.slot l in
     ap entries_in same ∙ c.self.view_is

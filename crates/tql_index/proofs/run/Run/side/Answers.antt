@@ -15,8 +15,8 @@ returns-then-is_lt g c =
     let v : entries_in ss ≡ c.args.self.now = c.self.view_is in
     let some : 0 < length ss = omega (arith, c.requires, ap length v, length-map ss entry_of) in
     subst (λ (es : List Entry). IsSide Less e es) v
-    (side_less e ss c.self.inside.ends.first c.compare.result c.self.invariant.0.in_order c.self.invariant.1.first_is some
-    c.compare.ensures (sym c.is_lt.ensures ∙ c.if-is_lt.true))
+    (side_less e ss c.self.inside.ends.first c.compare.result c.self.invariant.0.in_order
+    c.self.invariant.1.first_is some c.compare.ensures (sym c.is_lt.ensures ∙ c.if-is_lt.true))
 
 pub returns-then-is_lt-2 : goal.returns-then-is_lt-2
 returns-then-is_lt-2 g c =
