@@ -52,6 +52,13 @@ impl Span {
         self.group
     }
 
+    /// Returns the period in the group.
+    pub fn period(self) -> Period
+        ensures { result ≡ self.period }
+    {
+        self.period
+    }
+
     /// Whether the span shares a point with the line from one place up to another.
     pub(crate) fn shares(self, from: Place, to: Place) -> bool
         ensures { result ≡ share_a_point (span_of self) (points_between from to) }
