@@ -15,7 +15,8 @@ use tql_period::period::Period;
 pub struct Span {
     /// The group.
     pub group: i64,
-    period: Period,
+    /// The period in the group.
+    pub period: Period,
 }
 
 impl Span {

@@ -2,36 +2,45 @@
 ghost use Rattle.std.specs.Prelude.{◌≡◌, ◌<◌, ◌≤◌, [], None, Some, OnOk, OnErr, IfOk, IfSome, length, map};
 ghost use Rattle.std.specs.Prelude.{slice_index_or, slice_set};
 ghost use Rattle.tql_index.specs.Spans.{span_of};
-ghost use Rattle.tql_store_index.specs.Standing.{points_if, points_of_group, stands};
+ghost use Rattle.tql_store_index.specs.Standing.{points_if, points_of_group, points_of_slot, stands};
 
 use std::alloc::AllocError;
 use std::marker::Model;
 use tql_index::span::Span;
 use tql_memory::Memory;
+use tql_period::period::Period;
 
 // Stands for a row slot without a period in a list of groups.
 const NO_GROUP: i64 = i64::MIN;
 
+/// The span of a row slot, or none if the start is not before the end. An `Option<Span>` takes 8 bytes more.
+#[derive(Clone, Copy)]
+pub(crate) struct SlotSpan {
+    group: i64,
+    start: i64,
+    end: i64,
+}
+
 /// The period of each row slot, if it has one. Its model is the list of periods by row slot.
 ///
 /// An index on values alone files each row under the whole group of its values. The list then keeps only the groups, in
-/// 8 bytes a row slot in place of 32.
+/// 8 bytes a row slot in place of 24.
 #[derive(Drop)]
 pub struct SlotPeriods {
     // Whether the list is in `spans`, else it is in `groups`. The other one is empty.
     is_wide: bool,
     groups: Vec<i64, Memory>,
-    spans: Vec<Option<Span>, Memory>,
+    spans: Vec<SlotSpan, Memory>,
 }
 
 impl Model for SlotPeriods {
     ghost use Rattle.std.specs.Prelude.{List, Option, if◌then◌else◌, map};
     ghost use Rattle.tql_spec.specs.Period.{Period};
-    ghost use Rattle.tql_store_index.specs.Standing.{points_if, points_of_group};
+    ghost use Rattle.tql_store_index.specs.Standing.{points_of_group, points_of_slot};
 
     ghost Value = { List (Option Period) };
 
-    ghost view = { λ s. if s.is_wide then map points_if s.spans.items else map points_of_group s.groups.items };
+    ghost view = { λ s. if s.is_wide then map points_of_slot s.spans.items else map points_of_group s.groups.items };
 }
 
 /// Returns the whole of a group as a span, or `None` for `NO_GROUP`.
@@ -57,13 +66,56 @@ fn group_of_span(span: Span) -> Option<i64>
     }
 }
 
-/// Returns the spans of these groups.
-fn spans_of_groups(memory: Memory, groups: &[i64]) -> Result<Vec<Option<Span>, Memory>, AllocError>
-    ensures { IfOk result (λ spans. map points_if spans.items ≡ map points_of_group groups.now) }
+/// Returns the entry of a row slot without a period.
+fn no_span() -> SlotSpan
+    ensures { points_of_slot result ≡ None }
+{
+    SlotSpan {
+        group: 0,
+        start: 0,
+        end: 0,
+    }
+}
+
+/// Returns the entry of a row slot with a span.
+fn slot_span(span: Span) -> SlotSpan
+    ensures { points_of_slot result ≡ Some (span_of span) }
+{
+    let period = span.period;
+    SlotSpan {
+        group: span.group,
+        start: period.start,
+        end: period.end,
+    }
+}
+
+/// Returns the span of a row slot, if it has one.
+fn span_of_slot(slot: SlotSpan) -> Option<Span>
+    ensures { points_if result ≡ points_of_slot slot }
+{
+    match Period::new(slot.start, slot.end) {
+        Some(period) => Some(Span::within(slot.group, period)),
+        None => None,
+    }
+}
+
+/// Returns the entry of a row slot with this whole group, or without a period for `NO_GROUP`.
+fn slot_of_group(group: i64) -> SlotSpan
+    ensures { points_of_slot result ≡ points_of_group group }
+{
+    match span_of_group(group) {
+        Some(span) => slot_span(span),
+        None => no_span(),
+    }
+}
+
+/// Returns the entries of row slots with these groups.
+fn slots_of_groups(memory: Memory, groups: &[i64]) -> Result<Vec<SlotSpan, Memory>, AllocError>
+    ensures { IfOk result (λ spans. map points_of_slot spans.items ≡ map points_of_group groups.now) }
 {
     let mut spans = Vec::with_capacity(memory, groups.len())?;
     for group in groups {
-        spans.push(span_of_group(*group))?;
+        spans.push(slot_of_group(*group))?;
     }
     Ok(spans)
 }
@@ -82,23 +134,24 @@ fn lengthen_groups(groups: &mut Vec<i64, Memory>, slots: usize) -> Result<(), Al
 }
 
 /// Extends the list to at least `slots` row slots. The new ones have no period.
-fn lengthen_spans(spans: &mut Vec<Option<Span>, Memory>, slots: usize) -> Result<(), AllocError>
-    ensures kept { (s : _) → slice_index_or spans.new.items s None ≡ slice_index_or spans.old.items s None }
+fn lengthen_spans(spans: &mut Vec<SlotSpan, Memory>, slots: usize) -> Result<(), AllocError>
+    ensures kept { (s : _) → slice_index_or (map points_of_slot spans.new.items) s None
+        ≡ slice_index_or (map points_of_slot spans.old.items) s None }
     ensures longer { length spans.old.items ≤ length spans.new.items }
     ensures ok { OnOk result (slots ≤ length spans.new.items) }
 {
     while spans.len() < slots {
-        spans.push(None)?;
+        spans.push(no_span())?;
     }
     Ok(())
 }
 
 /// Returns the span of a row slot, if it has one.
-fn span_at(spans: &[Option<Span>], slot: usize) -> Option<Span>
-    ensures { result ≡ slice_index_or spans.now slot None }
+fn span_at(spans: &[SlotSpan], slot: usize) -> Option<Span>
+    ensures { points_if result ≡ slice_index_or (map points_of_slot spans.now) slot None }
 {
     match spans.get(slot) {
-        Some(span) => *span,
+        Some(span) => span_of_slot(*span),
         None => None,
     }
 }
@@ -156,7 +209,7 @@ impl SlotPeriods {
         ensures err { OnErr result (self.new ≡ self.old) }
     {
         if self.is_wide {
-            self.spans[slot] = Some(span);
+            self.spans[slot] = slot_span(span);
             return Ok(());
         }
         if let Some(group) = group_of_span(span) {
@@ -164,8 +217,8 @@ impl SlotPeriods {
             return Ok(());
         }
         let memory = *self.groups.allocator();
-        let mut spans = spans_of_groups(memory, &self.groups)?;
-        spans[slot] = Some(span);
+        let mut spans = slots_of_groups(memory, &self.groups)?;
+        spans[slot] = slot_span(span);
         self.is_wide = true;
         self.groups = Vec::new(memory);
         self.spans = spans;
@@ -178,7 +231,7 @@ impl SlotPeriods {
         ensures { self.new ≡ slice_set self.old slot None }
     {
         if self.is_wide {
-            self.spans[slot] = None;
+            self.spans[slot] = no_span();
         } else {
             self.groups[slot] = NO_GROUP;
         }

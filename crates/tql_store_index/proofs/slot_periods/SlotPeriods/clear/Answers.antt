@@ -5,8 +5,8 @@ use Rattle.tql_store_index.proofs.slot_periods.SlotPeriods.clear.Goals as goal
 
 pub returns-then-self : goal.returns-then-self
 returns-then-self c =
-    set_span c.self.inside.is_wide c.self.inside.spans.items c.self.inside.groups.items c.args.self.now c.args.slot
-    None c.if-self.true c.self.view_is
+    set_span c.self.inside.is_wide c.self.inside.spans.items c.self.inside.groups.items c.args.self.now c.args.slot _
+    None c.if-self.true c.self.view_is c.no_span.ensures
 
 pub returns-else-self : goal.returns-else-self
 returns-else-self c =
