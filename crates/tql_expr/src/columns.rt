@@ -1,5 +1,5 @@
 //! The rows on which expressions are evaluated.
-ghost use Rattle.std.specs.Prelude.{◌≡◌, List, [], length, slice_index_or};
+ghost use Rattle.std.specs.Prelude.{◌≡◌, ◌<◌, ◌^◌, List, [], length, slice_index_or};
 ghost use Rattle.tql_spec.specs.Datum as pure;
 ghost use Rattle.tql_spec.specs.Expression as bound;
 ghost use Rattle.tql_value.specs.Views.{datum_of_view, outcome};
@@ -18,9 +18,9 @@ pub trait Columns {
     /// The rows of the row's group, over which aggregates are computed; no rows if there is no group.
     ghost group: { Self → List pure.Row };
 
-    /// Returns the number of columns.
+    /// Returns the number of columns, if that fits in 64 bits.
     fn width(&self) -> usize
-        ensures { result ≡ length (values self.now) };
+        ensures { length (values self.now) < 2 ^ 64 → result ≡ length (values self.now) };
 
     /// Returns the value of a column, or NULL past the last one.
     fn column(&self, place: usize) -> View<'_>

@@ -20,13 +20,15 @@ pub fn cell_at(cells: &[Value], place: usize) -> View<'_>
 }
 
 impl Columns for Row {
-    ghost use Rattle.std.specs.Prelude.{[]};
+    ghost use Rattle.std.specs.Prelude.{◌≡◌, [], length};
 
     ghost values = { λ r. r };
 
     ghost group = { λ r. [] };
 
-    fn width(&self) -> usize {
+    fn width(&self) -> usize
+        ensures { result ≡ length self.now }
+    {
         Row::width(self)
     }
 
@@ -43,13 +45,15 @@ impl Columns for Row {
 pub struct EmptyRow;
 
 impl Columns for EmptyRow {
-    ghost use Rattle.std.specs.Prelude.{[]};
+    ghost use Rattle.std.specs.Prelude.{◌≡◌, []};
 
     ghost values = { λ r. [] };
 
     ghost group = { λ r. [] };
 
-    fn width(&self) -> usize {
+    fn width(&self) -> usize
+        ensures { result ≡ 0 }
+    {
         0
     }
 

@@ -93,14 +93,16 @@ impl<'a> StoredRow<'a> {
 }
 
 impl Columns for StoredRow<'_> {
-    ghost use Rattle.std.specs.Prelude.{[]};
+    ghost use Rattle.std.specs.Prelude.{◌≡◌, [], length};
     ghost use Rattle.tql_expr.specs.Shown.{shown_by};
 
     ghost values = { λ r. shown_by r };
 
     ghost group = { λ r. [] };
 
-    fn width(&self) -> usize {
+    fn width(&self) -> usize
+        ensures { result ≡ length (shown_by self.now) }
+    {
         let stored = self.row.width();
         if self.system.is_some() {
             stored + 2

@@ -45,6 +45,13 @@ impl Span {
         }
     }
 
+    /// Returns the group.
+    pub fn group(self) -> i64
+        ensures { result ≡ self.group }
+    {
+        self.group
+    }
+
     /// Whether the span shares a point with the line from one place up to another.
     pub(crate) fn shares(self, from: Place, to: Place) -> bool
         ensures { result ≡ share_a_point (span_of self) (points_between from to) }

@@ -1,12 +1,11 @@
 -- The keys and references of a table, and the new rows, by their index.
-use Rattle.std.proofs.Common.{◌≡◌, ℕ, ℤ, Bool, true, List, Vec, map, sym, ap, subst, ◌∙◌}
+use Rattle.std.proofs.Common.{◌≡◌, ℕ, ℤ, Bool, true, List, map, sym, ap, subst, ◌∙◌}
 use Rattle.std.specs.Prelude.{Option, Some, None, option_map, slice_get, IfSome}
 use Rattle.std.specs.List.{list_all}
 use Rattle.std.proofs.lemmas.Option.{slice_get-map, slice_get_within, get_or_from_slice_get}
+use Rattle.tql_spec.specs.Datum.{Row}
 use Rattle.tql_spec.specs.Definition.{TableDef, shown}
 use Rattle.tql_store.specs.Changes.{starting}
-use Rattle.tql_value.specs.Views.{row_of, rows_of}
-use Rattle.tql_value.specs.declared.value.Value.{Value}
 use Rattle.tql_keys.specs.Asked.{new_rows}
 use Rattle.tql_keys.proofs.Positions.{part_in}
 use Rattle.tql_keys.proofs.Stepping.{new_row}
@@ -29,13 +28,11 @@ pub same_part : {A : Type 0} {o : Option A} {x y : A} → o ≡ Some x → o ≡
 same_part e k = cc
 
 -- the new row at an index
-pub new_at : {A : Type 0} (d : TableDef) (m : ℤ) (rows : List (Vec Value A)) (n : ℕ) (v : Vec Value A)
-    → slice_get rows n ≡ Some v → slice_get (new_rows d m (rows_of rows)) n ≡ Some (new_row d m v)
+pub new_at : (d : TableDef) (m : ℤ) (rows : List Row) (n : ℕ) (v : Row) → slice_get rows n ≡ Some v
+    → slice_get (new_rows d m rows) n ≡ Some (new_row d m v)
 new_at d m rows n v e =
-    slice_get-map (shown d) (map (starting m) (rows_of rows)) n
-    ∙ ap (option_map (shown d)) (slice_get-map (starting m) (rows_of rows) n
-    ∙ ap (option_map (starting m)) (slice_get-map (λ w. row_of w.items) rows n
-    ∙ ap (option_map (λ w. row_of w.items)) e))
+    slice_get-map (shown d) (map (starting m) rows) n
+    ∙ ap (option_map (shown d)) (slice_get-map (starting m) rows n ∙ ap (option_map (starting m)) e)
 
 -- a property of two indexes is a property of a failure that has them
 pub failure_is : (r : Option ReferenceFailure) (u n : ℕ) (P : ℕ → ℕ → Type 0) → IfSome r (λ f. f.child ≡ u)

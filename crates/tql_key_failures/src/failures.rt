@@ -9,7 +9,6 @@ ghost use Rattle.tql_catalog.specs.Rows.{are_assignable};
 ghost use Rattle.tql_catalog.specs.Tables.{definitions_of};
 ghost use Rattle.tql_expr.specs.Shown.{shown_by};
 ghost use Rattle.tql_store.specs.StoreModel.{has_table, is_among};
-ghost use Rattle.tql_value.specs.Views.{rows_of};
 ghost use Rattle.tql_keys.specs.Asked.{new_rows, row_named};
 ghost use Rattle.tql_keys.specs.Checked.{AreThere, has_parent};
 ghost use Rattle.tql_keys.specs.Coming.{TuplesRise};
@@ -209,10 +208,10 @@ fn failed_row<I: IntervalIndex>(
 /// Returns an added row, as its table shows it.
 fn added_row<'a>(definition: &TableDef, change: &Change<'a>, number: usize) -> Option<StoredRow<'a>>
     ensures { option_map shown_by result
-        ≡ slice_get (new_rows definition.now change.now.moment (rows_of change.now.added.now)) number }
+        ≡ slice_get (new_rows definition.now change.now.moment change.now.added.now) number }
 {
-    let cells = change.added.get(number)?;
-    Some(current_row(definition, cells, change.moment))
+    let row = change.added.get(number)?;
+    Some(current_row(definition, row, change.moment))
 }
 
 /// Returns a row of the table, as the table shows it. None if the change removes it.
@@ -230,7 +229,7 @@ fn staying_row<'s, I: IntervalIndex>(
         return None;
     }
     let named = store.row(table.id, id)?;
-    Some(current_row(&table.definition, named.row, named.start))
+    Some(current_row(&table.definition, &named.kept.row, named.kept.start))
 }
 
 /// Whether there are two rows and a key, and the rows clash in it.
@@ -267,7 +266,7 @@ fn other_row<'a, I: IntervalIndex>(
     requires { IsTrue (has_table store.now table.now.id) }
     ensures { option_map shown_by result ≡ spec.row_at table.now.definition (row_named store.now table.now.id)
         change.now.removed.now
-        (new_rows table.now.definition change.now.moment (rows_of change.now.added.now)) other }
+        (new_rows table.now.definition change.now.moment change.now.added.now) other }
 {
     match other {
         RowRef::Added(number) => added_row(&table.definition, change, number),
@@ -295,7 +294,7 @@ fn is_failure<I: IntervalIndex>(
     requires { IsTrue (has_table store.now table.now.id) }
     ensures { result ≡ spec.is_key_failure table.now.definition (row_named store.now table.now.id)
         change.now.removed.now
-        (new_rows table.now.definition change.now.moment (rows_of change.now.added.now)) failure }
+        (new_rows table.now.definition change.now.moment change.now.added.now) failure }
 {
     let key = key_at(&table.definition, failure.key);
     let row = added_row(&table.definition, change, failure.row);
@@ -313,7 +312,7 @@ fn tested<I: IntervalIndex>(
     requires { IsTrue (has_table store.now table.now.id) }
     ensures { IfSome result (λ f. IsTrue (spec.is_key_failure table.now.definition
         (row_named store.now table.now.id) change.now.removed.now
-        (new_rows table.now.definition change.now.moment (rows_of change.now.added.now)) f)) }
+        (new_rows table.now.definition change.now.moment change.now.added.now) f)) }
 {
     let failure = found?;
     if is_failure(store, table, change, failure) {
@@ -373,7 +372,7 @@ pub fn failed_key<I: IntervalIndex>(
     requires { IsTrue (has_table store.now table.now.id) }
     ensures { IfOk result (λ found. IfSome found (λ f. IsTrue (spec.is_key_failure table.now.definition
         (row_named store.now table.now.id) delta.now.removed.items
-        (new_rows table.now.definition moment (rows_of delta.now.added.items)) f))) }
+        (new_rows table.now.definition moment delta.now.added.items) f))) }
 {
     let removed = rising(memory, &delta.removed)?;
     let change = Change {
@@ -424,7 +423,7 @@ fn unmet_child<I: IntervalIndex>(
     requires child_there { IsTrue (has_table store.now children.now.table.now.id) }
     requires rise { TuplesRise parents.now.columns.now coming.now }
     requires coming { SameBag (map shown_by coming.now)
-        (new_rows parents.now.table.now.definition change.now.moment (rows_of change.now.added.now)) }
+        (new_rows parents.now.table.now.definition change.now.moment change.now.added.now) }
 {
     let child = &children.table.definition;
     let tuple = tuple_of(memory, row, &reference.parent_columns)?;
@@ -432,7 +431,7 @@ fn unmet_child<I: IntervalIndex>(
     let found = children.find_in(memory, store, &tuple, reference.by_period, lost)?;
     let others = found.as_slice();
     for other in others {
-        let row = current_row(child, other.row, other.start);
+        let row = current_row(child, &other.kept.row, other.kept.start);
         if !is_met(
             memory, store, child, &row, reference, parents, change, coming,
         )? {
@@ -461,7 +460,7 @@ fn unmet_among<I: IntervalIndex>(
     requires child_columns { children.now.columns.now ≡ (reference_of reference.now).columns }
     requires rise { TuplesRise parents.now.columns.now coming.now }
     requires coming { SameBag (map shown_by coming.now)
-        (new_rows parents.now.table.now.definition change.now.moment (rows_of change.now.added.now)) }
+        (new_rows parents.now.table.now.definition change.now.moment change.now.added.now) }
 {
     for place in 0..going.len() {
         let spared = is_spared_at(
@@ -560,7 +559,7 @@ fn unmet_at<I: IntervalIndex>(
     requires child_within { child < length catalog.now }
     requires there { AreThere store.now catalog.now }
     ensures { IfOk result (λ found. IfSome found (spec.IsReferenceFailure store.now catalog.now place
-        change.now.removed.now change.now.moment (rows_of change.now.added.now))) }
+        change.now.removed.now change.now.moment change.now.added.now)) }
 {
     let _ = catalog.len();
     let table = catalog.table(child);
@@ -588,7 +587,7 @@ fn failed_of<I: IntervalIndex>(
     requires child_within { child < length catalog.now }
     requires there { AreThere store.now catalog.now }
     ensures { IfOk result (λ found. IfSome found (spec.IsReferenceFailure store.now catalog.now place
-        change.now.removed.now change.now.moment (rows_of change.now.added.now))) }
+        change.now.removed.now change.now.moment change.now.added.now)) }
 {
     let table = catalog.table(child);
     for number in 0..table.definition.references().len() {
@@ -612,7 +611,7 @@ fn failed_reference_after<I: IntervalIndex>(
     requires within { place < length catalog.now }
     requires there { AreThere store.now catalog.now }
     ensures { IfOk result (λ found. IfSome found (spec.IsReferenceFailure store.now catalog.now place
-        change.now.removed.now change.now.moment (rows_of change.now.added.now))) }
+        change.now.removed.now change.now.moment change.now.added.now)) }
 {
     let own = failed_of(memory, catalog, store, place, place, change)?;
     if own.is_some() {
@@ -642,7 +641,7 @@ pub fn failed_reference<I: IntervalIndex>(
     requires within { place < length catalog.now }
     requires there { AreThere store.now catalog.now }
     ensures { IfOk result (λ found. IfSome found (spec.IsReferenceFailure store.now catalog.now place
-        delta.now.removed.items moment (rows_of delta.now.added.items))) }
+        delta.now.removed.items moment delta.now.added.items)) }
 {
     let removed = rising(memory, &delta.removed)?;
     let change = Change {

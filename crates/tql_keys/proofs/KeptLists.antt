@@ -1,15 +1,14 @@
 -- Ids paired with the rows that replace theirs, and lists of distinct ids.
 use Rattle.std.proofs.Common.{◌≡◌, ◌≤◌, ◌<◌, refl, sym, ap, ◌∙◌, ℕ, zero, suc, ◌+◌, Bool, true, false, List, [], ◌∷◌}
-use Rattle.std.proofs.Common.{length, arith, nat_eq, nat_lt, get_or, subst, add-one, Vec}
+use Rattle.std.proofs.Common.{length, arith, nat_eq, nat_lt, get_or, subst, add-one}
 use Rattle.std.specs.Prelude.{◌&&◌, not, zip, ℤ, Option}
 use Rattle.std.specs.List.{list_all, IsAllAdjacentAnswer}
 use Rattle.std.proofs.lemmas.Bool.Decides.{nat_tests}
 use Rattle.tql_spec.specs.Bag.{SameBag}
+use Rattle.tql_spec.specs.Datum.{Row}
 use Rattle.tql_spec.specs.Definition.{TableDef, Stamped}
 use Rattle.tql_spec.proofs.Bags.{same-sym}
 use Rattle.tql_points.proofs.Pairs.{pairs_by_bag}
-use Rattle.tql_value.specs.Views.{rows_of}
-use Rattle.tql_value.specs.declared.value.Value.{Value}
 use Rattle.tql_keys.specs.Asked.{new_rows}
 use Rattle.tql_keys.specs.Keeping.{are_kept, is_kept}
 use Rattle.tql_keys.specs.Rising.{AreRising, are_distinct}
@@ -20,10 +19,10 @@ use Rattle.tql_keys.proofs.Sameness.{any_bag}
 use Rattle.tql_keys.proofs.Stepping.{new_row}
 
 -- each id with the row that replaces its row
-pub kept_zipped : {A : Type 0} (d : TableDef) (columns : List ℕ) (by_period : Bool) (named : ℕ → Option Stamped) (m : ℤ)
-    (ids : List ℕ) (rows : List (Vec Value A)) → length ids ≡ length rows
-    → list_all (λ (x : ℕ × Vec Value A). is_kept d columns by_period (named x.0) (new_row d m x.1)) (zip ids rows)
-    ≡ are_kept d columns by_period named ids (new_rows d m (rows_of rows))
+pub kept_zipped : (d : TableDef) (columns : List ℕ) (by_period : Bool) (named : ℕ → Option Stamped) (m : ℤ)
+    (ids : List ℕ) (rows : List Row) → length ids ≡ length rows
+    → list_all (λ (x : ℕ × Row). is_kept d columns by_period (named x.0) (new_row d m x.1)) (zip ids rows)
+    ≡ are_kept d columns by_period named ids (new_rows d m rows)
 kept_zipped d columns by_period named m [] [] n = refl
 kept_zipped d columns by_period named m [] (v ∷ rows) n = absurd (omega arith)
 kept_zipped d columns by_period named m (id ∷ ids) [] n = absurd (omega arith)
@@ -36,9 +35,9 @@ no true = refl
 no false = refl
 
 -- if the counts differ, the rows are not kept
-pub not_one_each : {A : Type 0} (d : TableDef) (columns : List ℕ) (by_period : Bool) (named : ℕ → Option Stamped)
-    (m : ℤ) (ids : List ℕ) (rows : List (Vec Value A)) → (length ids ≡ length rows → ⊥)
-    → are_kept d columns by_period named ids (new_rows d m (rows_of rows)) ≡ false
+pub not_one_each : (d : TableDef) (columns : List ℕ) (by_period : Bool) (named : ℕ → Option Stamped) (m : ℤ)
+    (ids : List ℕ) (rows : List Row) → (length ids ≡ length rows → ⊥)
+    → are_kept d columns by_period named ids (new_rows d m rows) ≡ false
 not_one_each d columns by_period named m [] [] n = absurd (n refl)
 not_one_each d columns by_period named m [] (v ∷ rows) n = refl
 not_one_each d columns by_period named m (id ∷ ids) [] n = refl

@@ -1,24 +1,22 @@
 -- Tests of the new rows, one position at a time.
 use Rattle.std.proofs.Common.{◌≡◌, ◌<◌, ◌≤◌, refl, sym, ap, ◌∙◌, ℕ, ◌+◌, suc, Bool, true, List, [], ◌∷◌, length, drop}
-use Rattle.std.proofs.Common.{get_or, add-one, Vec}
+use Rattle.std.proofs.Common.{get_or, add-one}
 use Rattle.std.specs.Prelude.{◌&&◌, ℤ}
 use Rattle.std.specs.List.{list_all}
 use Rattle.std.proofs.Math.Seq.{drop-cons}
 use Rattle.std.proofs.lemmas.List.{drop_all}
 use Rattle.tql_spec.specs.Datum.{Row}
 use Rattle.tql_spec.specs.Definition.{TableDef, shown}
-use Rattle.tql_value.specs.Views.{row_of, rows_of}
-use Rattle.tql_value.specs.declared.value.Value.{Value}
 use Rattle.tql_store.specs.Changes.{starting}
 use Rattle.tql_keys.specs.Asked.{new_rows}
 
--- a row of values that starts at a moment
-abbrev pub new_row : {A : Type 0} → TableDef → ℤ → Vec Value A → Row
-new_row d m v = shown d (starting m (row_of v.items))
+-- a row that starts at a moment, as its table shows it
+abbrev pub new_row : TableDef → ℤ → Row → Row
+new_row d m v = shown d (starting m v)
 
--- a test of the new rows is a test of the rows of values
-pub all_new : {A : Type 0} (P : Row → Bool) (d : TableDef) (m : ℤ) (rows : List (Vec Value A))
-    → list_all (λ v. P (new_row d m v)) rows ≡ list_all P (new_rows d m (rows_of rows))
+-- a test of the new rows is a test of the added ones
+pub all_new : (P : Row → Bool) (d : TableDef) (m : ℤ) (rows : List Row)
+    → list_all (λ v. P (new_row d m v)) rows ≡ list_all P (new_rows d m rows)
 all_new P d m [] = refl
 all_new P d m (v ∷ rows) = ap (λ b. P (new_row d m v) && b) (all_new P d m rows)
 
@@ -34,17 +32,15 @@ pub none_left : {X : Type 0} (P : X → Bool) (xs : List X) (i : ℕ) → length
 none_left P xs i l = ap (list_all P) (drop_all i xs l)
 
 -- the remaining new rows, and one before them
-pub left_decides : {A : Type 0} (F : Row → Bool) (d : TableDef) (m : ℤ) (added : List (Vec Value A)) (i : ℕ)
-    (x : Vec Value A) (row : Row) (b : Bool) → i < length added → x ≡ get_or added i x → row ≡ new_row d m x
-    → b ≡ F row
-    → list_all F (new_rows d m (rows_of (drop i added)))
-    ≡ b && list_all F (new_rows d m (rows_of (drop (i + 1) added)))
+pub left_decides : (F : Row → Bool) (d : TableDef) (m : ℤ) (added : List Row) (i : ℕ) (x row : Row) (b : Bool)
+    → i < length added → x ≡ get_or added i x → row ≡ new_row d m x → b ≡ F row
+    → list_all F (new_rows d m (drop i added)) ≡ b && list_all F (new_rows d m (drop (i + 1) added))
 left_decides F d m added i x row b l e r f =
     sym (all_new F d m (drop i added))
     ∙ one_left (λ v. F (new_row d m v)) added i x l e
     ∙ ap (λ c. c && list_all (λ v. F (new_row d m v)) (drop (i + 1) added)) (sym (f ∙ ap F r))
     ∙ ap (λ c. b && c) (all_new F d m (drop (i + 1) added))
 
-pub left_none : {A : Type 0} (F : Row → Bool) (d : TableDef) (m : ℤ) (added : List (Vec Value A)) (i : ℕ)
-    → length added ≤ i → list_all F (new_rows d m (rows_of (drop i added))) ≡ true
+pub left_none : (F : Row → Bool) (d : TableDef) (m : ℤ) (added : List Row) (i : ℕ) → length added ≤ i
+    → list_all F (new_rows d m (drop i added)) ≡ true
 left_none F d m added i l = sym (all_new F d m (drop i added)) ∙ none_left (λ v. F (new_row d m v)) added i l

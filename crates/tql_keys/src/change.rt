@@ -6,14 +6,14 @@ ghost use Rattle.tql_keys.specs.Rising.{AreRising};
 
 use std::alloc::AllocError;
 use tql_memory::Memory;
-use tql_value::value::Value;
+use tql_row::row::Row;
 
 /// A change to the rows of one table: the ids of the removed rows, rising, and the added rows. These start at `moment`,
 /// in microseconds since 1970-01-01.
 #[derive(Clone, Copy)]
 pub struct Change<'a> {
     pub removed: &'a [usize],
-    pub added: &'a [Vec<Value, Memory>],
+    pub added: &'a [Row],
     pub moment: i64,
     /// The ids of the removed rows, in the order in which they were given.
     pub given: &'a [usize],

@@ -19,7 +19,6 @@ ghost use Rattle.tql_catalog.specs.Tables.{definitions_of};
 ghost use Rattle.tql_catalog.specs.declared.catalog.Table.{Table};
 ghost use Rattle.tql_store.specs.Changes.{rows_after};
 ghost use Rattle.tql_store.specs.Represents.{Judged};
-ghost use Rattle.tql_value.specs.Views.{rows_of};
 ghost use Rattle.tql_keys.specs.Checked.{AreThere, AreJudged, IsCopyOf, copy_after, has_parent, references_hold_of};
 ghost use Rattle.tql_keys.specs.Checked.{TellsTests, TellsFirst, TellsAtPoints};
 ghost use Rattle.tql_keys.specs.PointTests.{IsRefusedAsPoints};
@@ -71,10 +70,10 @@ fn reference_between<I: IntervalIndex>(
         → reference_to (definitions_of catalog.now) copy (table_at (definitions_of catalog.now) child)
         (table_rows (definitions_of catalog.now) copy child) (reference_of reference.now) (Some parent) ≡ true
         → holds ≡ reference_to (definitions_of catalog.now)
-        (copy_after change.now.moment place gone (rows_of change.now.added.now) copy)
+        (copy_after change.now.moment place gone change.now.added.now copy)
         (table_at (definitions_of catalog.now) child)
         (table_rows (definitions_of catalog.now)
-        (copy_after change.now.moment place gone (rows_of change.now.added.now) copy) child)
+        (copy_after change.now.moment place gone change.now.added.now copy) child)
         (reference_of reference.now) (Some parent)) }
 {
     let from = catalog.table(child);
@@ -112,10 +111,10 @@ pub fn reference_after<I: IntervalIndex>(
         (table_rows (definitions_of catalog.now) copy child) (reference_of reference.now)
         (place_of (reference_of reference.now).parent (definitions_of catalog.now)) ≡ true
         → holds ≡ reference_to (definitions_of catalog.now)
-        (copy_after change.now.moment place gone (rows_of change.now.added.now) copy)
+        (copy_after change.now.moment place gone change.now.added.now copy)
         (table_at (definitions_of catalog.now) child)
         (table_rows (definitions_of catalog.now)
-        (copy_after change.now.moment place gone (rows_of change.now.added.now) copy) child)
+        (copy_after change.now.moment place gone change.now.added.now copy) child)
         (reference_of reference.now) (place_of (reference_of reference.now).parent (definitions_of catalog.now))) }
 {
     let Some(parent) = catalog.place_of(reference.parent.as_str()) else {
@@ -143,7 +142,7 @@ fn references_of<I: IntervalIndex>(
         → AreJudged store.now catalog.now place gone change.now.removed.now
         → references_hold_of (definitions_of catalog.now) copy child ≡ true
         → holds ≡ references_hold_of (definitions_of catalog.now)
-        (copy_after change.now.moment place gone (rows_of change.now.added.now) copy) child) }
+        (copy_after change.now.moment place gone change.now.added.now copy) child) }
 {
     let _ = catalog.len();
     let table = catalog.table(child);
@@ -170,7 +169,7 @@ fn references_after<I: IntervalIndex>(
         → AreJudged store.now catalog.now place gone change.now.removed.now
         → references_hold (definitions_of catalog.now) copy ≡ true
         → holds ≡ references_hold (definitions_of catalog.now)
-        (copy_after change.now.moment place gone (rows_of change.now.added.now) copy)) }
+        (copy_after change.now.moment place gone change.now.added.now copy)) }
 {
     let own = references_of(memory, catalog, store, place, place, change)?;
     if !own {
@@ -201,7 +200,7 @@ fn test<I: IntervalIndex>(
     ensures { (copy : Copy) (rows : List Stamped) (gone : Stamped → Bool) → IsCopyOf store.now catalog.now copy
         → Judged store.now delta.now.table gone delta.now.removed.items
         → keys_hold (definitions_of catalog.now) copy ≡ true → references_hold (definitions_of catalog.now) copy ≡ true
-        → SameBag rows (rows_after moment gone (rows_of delta.now.added.items) (rows_in copy place))
+        → SameBag rows (rows_after moment gone delta.now.added.items (rows_in copy place))
         → TellsTests (keys_hold (definitions_of catalog.now) (slice_set copy place rows))
         (references_hold (definitions_of catalog.now) (slice_set copy place rows)) result }
 {
@@ -246,17 +245,17 @@ pub fn check<I: IntervalIndex>(
     ensures tests { (copy : Copy) (rows : List Stamped) (gone : Stamped → Bool) → IsCopyOf store.now catalog.now copy
         → Judged store.now delta.now.table gone delta.now.removed.items
         → constraint_faults (definitions_of catalog.now) copy ≡ []
-        → SameBag rows (rows_after moment gone (rows_of delta.now.added.items) (rows_in copy place))
+        → SameBag rows (rows_after moment gone delta.now.added.items (rows_in copy place))
         → TellsFirst (first (constraint_faults (definitions_of catalog.now) (slice_set copy place rows))) result }
     ensures points { (copy : Copy) (rows : List Stamped) (gone : Stamped → Bool) → IsCopyOf store.now catalog.now copy
         → Judged store.now delta.now.table gone delta.now.removed.items
         → HoldsAtPoints (definitions_of catalog.now) copy
-        → SameBag rows (rows_after moment gone (rows_of delta.now.added.items) (rows_in copy place))
+        → SameBag rows (rows_after moment gone delta.now.added.items (rows_in copy place))
         → TellsAtPoints (definitions_of catalog.now) (slice_set copy place rows) result }
     ensures refusals { (copy : Copy) (rows : List Stamped) (gone : Stamped → Bool)
         → IsCopyOf store.now catalog.now copy → Judged store.now delta.now.table gone delta.now.removed.items
         → HoldsAtPoints (definitions_of catalog.now) copy
-        → SameBag rows (rows_after moment gone (rows_of delta.now.added.items) (rows_in copy place))
+        → SameBag rows (rows_after moment gone delta.now.added.items (rows_in copy place))
         → IsRefusedAsPoints (definitions_of catalog.now) (slice_set copy place rows) result }
 {
     test(memory, catalog, store, place, delta, moment)

@@ -4,7 +4,7 @@ ghost use Rattle.tql_spec.specs.Bag.{SameBag};
 ghost use Rattle.tql_spec.specs.Datum.{Row};
 ghost use Rattle.tql_spec.specs.Query.{by_columns};
 ghost use Rattle.tql_expr.specs.Shown.{shown_by};
-ghost use Rattle.tql_value.specs.Views.{datum_of_view, rows_of};
+ghost use Rattle.tql_value.specs.Views.{datum_of_view};
 ghost use Rattle.tql_keys.specs.Asked.{new_rows};
 ghost use Rattle.tql_keys.specs.Coming.{TuplesRise};
 ghost use Rattle.tql_keys.specs.Parents.{any_with};
@@ -39,7 +39,7 @@ pub fn sorted_coming<'a>(
 ) -> Result<Vec<StoredRow<'a>, Memory>, AllocError>
     ensures rise { IfOk result (λ rows. TuplesRise columns.now rows.items) }
     ensures same { IfOk result (λ rows. SameBag (map shown_by rows.items)
-        (new_rows definition.now change.now.moment (rows_of change.now.added.now))) }
+        (new_rows definition.now change.now.moment change.now.added.now)) }
 {
     let mut rows = current_rows(memory, definition, change.added, change.moment)?;
     sort_by_tuples(columns, &mut rows);

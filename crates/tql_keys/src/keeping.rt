@@ -5,7 +5,6 @@ ghost use Rattle.tql_spec.specs.Definition.{shown};
 ghost use Rattle.tql_expr.specs.Shown.{shown_by};
 ghost use Rattle.tql_store.specs.Changes.{starting};
 ghost use Rattle.tql_store.specs.StoreModel.{has_table};
-ghost use Rattle.tql_value.specs.Views.{row_of, rows_of};
 ghost use Rattle.tql_keys.specs.Asked.{new_rows, row_named};
 ghost use Rattle.tql_keys.specs.Keeping.{same_period, are_alike, is_kept as is_kept_in, are_kept as are_kept_in};
 
@@ -17,8 +16,8 @@ use tql_catalog::table_def::TableDef;
 use tql_expr::columns::Columns;
 use tql_expr::stored::StoredRow;
 use tql_index::index::IntervalIndex;
+use tql_row::row::Row;
 use tql_store::store::Store;
-use tql_value::value::Value;
 
 /// Whether two rows of a table have the same application period.
 fn is_period_kept(definition: &TableDef, old: &StoredRow<'_>, new: &StoredRow<'_>) -> bool
@@ -55,19 +54,19 @@ fn is_kept<I: IntervalIndex>(
     columns: &[usize],
     by_period: bool,
     id: usize,
-    cells: &[Value],
+    added: &Row,
     moment: i64,
 ) -> bool
     requires { IsTrue (has_table store.now table.now.id) }
     ensures { result ≡ is_kept_in table.now.definition columns.now by_period (row_named store.now table.now.id id)
-        (shown table.now.definition (starting moment (row_of cells.now))) }
+        (shown table.now.definition (starting moment added.now)) }
 {
     let definition = &table.definition;
     let Some(gone) = store.row(table.id, id) else {
         return false;
     };
-    let old = current_row(definition, gone.row, gone.start);
-    let new = current_row(definition, cells, moment);
+    let old = current_row(definition, &gone.kept.row, gone.kept.start);
+    let new = current_row(definition, added, moment);
     is_alike(definition, columns, by_period, &old, &new)
 }
 
@@ -82,14 +81,14 @@ pub(crate) fn are_kept<I: IntervalIndex>(
 ) -> bool
     requires { IsTrue (has_table store.now table.now.id) }
     ensures { result ≡ are_kept_in table.now.definition columns.now by_period (row_named store.now table.now.id)
-        change.now.given.now (new_rows table.now.definition change.now.moment (rows_of change.now.added.now)) }
+        change.now.given.now (new_rows table.now.definition change.now.moment change.now.added.now) }
 {
     let ids = change.given;
     let rows = change.added;
     ids.len() == rows.len()
         && ids.iter().zip(rows).all(
-            |(id, cells)|
+            |(id, added)|
                 requires { IsTrue (has_table store.now table.now.id) }
-            { is_kept(store, table, columns, by_period, *id, cells, change.moment) },
+            { is_kept(store, table, columns, by_period, *id, added, change.moment) },
         )
 }

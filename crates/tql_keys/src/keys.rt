@@ -8,7 +8,6 @@ ghost use Rattle.tql_catalog.specs.Rows.{are_assignable};
 ghost use Rattle.tql_expr.specs.Shown.{shown_by};
 ghost use Rattle.tql_store.specs.Changes.{rows_after};
 ghost use Rattle.tql_store.specs.StoreModel.{has_table};
-ghost use Rattle.tql_value.specs.Views.{rows_of};
 ghost use Rattle.tql_keys.specs.Asked.{AreRowsOf, IsJudged, new_rows, row_named, staying, keys_hold_of};
 ghost use Rattle.tql_keys.specs.Keeping.{are_kept as are_kept_in};
 ghost use Rattle.tql_keys.specs.Rising.{are_distinct};
@@ -66,7 +65,7 @@ fn holds_after<I: IntervalIndex>(
         → IsJudged (row_named store.now table.now.id) gone change.now.removed.now
         → key_holds table.now.definition (shown_rows table.now.definition rows) (key_of key.now) ≡ true
         → holds ≡ key_holds table.now.definition
-        (shown_rows table.now.definition (rows_after change.now.moment gone (rows_of change.now.added.now) rows))
+        (shown_rows table.now.definition (rows_after change.now.moment gone change.now.added.now rows))
         (key_of key.now)) }
 {
     let definition = &table.definition;
@@ -94,7 +93,7 @@ fn is_untouched<I: IntervalIndex>(
     requires { IsTrue (has_table store.now table.now.id) }
     ensures { result ≡ (are_kept_in table.now.definition (key_of key.now).columns (key_of key.now).by_period
         (row_named store.now table.now.id) change.now.given.now
-        (new_rows table.now.definition change.now.moment (rows_of change.now.added.now))
+        (new_rows table.now.definition change.now.moment change.now.added.now)
         && are_distinct change.now.given.now) }
 {
     are_kept(store, table, &key.columns, key.by_period, change) && change.names_once()
@@ -116,7 +115,7 @@ pub fn key_after<I: IntervalIndex>(
         → IsJudged (row_named store.now table.now.id) gone change.now.removed.now
         → key_holds table.now.definition (shown_rows table.now.definition rows) (key_of key.now) ≡ true
         → holds ≡ key_holds table.now.definition
-        (shown_rows table.now.definition (rows_after change.now.moment gone (rows_of change.now.added.now) rows))
+        (shown_rows table.now.definition (rows_after change.now.moment gone change.now.added.now rows))
         (key_of key.now)) }
 {
     if is_untouched(store, table, key, change) {
@@ -138,7 +137,7 @@ pub(crate) fn keys_after<I: IntervalIndex>(
         → IsJudged (row_named store.now table.now.id) gone change.now.removed.now
         → keys_hold_of table.now.definition (shown_rows table.now.definition rows) ≡ true
         → holds ≡ keys_hold_of table.now.definition
-        (shown_rows table.now.definition (rows_after change.now.moment gone (rows_of change.now.added.now) rows))) }
+        (shown_rows table.now.definition (rows_after change.now.moment gone change.now.added.now rows))) }
 {
     for key in table.definition.keys() {
         if !key_after(memory, store, table, key, change)? {

@@ -7,11 +7,12 @@ ghost use Rattle.tql_spec.specs.Constraint.{match_on, clash as clash_in};
 ghost use Rattle.tql_expr.specs.Shown.{shown_by};
 ghost use Rattle.tql_catalog.specs.Definitions.{key_of};
 ghost use Rattle.tql_period.specs.Points.{points_of};
-ghost use Rattle.tql_value.specs.Views.{datum_of_view, row_of, rows_of};
+ghost use Rattle.tql_value.specs.Views.{datum_of_view};
 ghost use Rattle.tql_store.specs.Changes.{starting};
 ghost use Rattle.tql_keys.specs.Asked.{new_rows};
 ghost use Rattle.tql_keys.specs.Touched.{tuple, has_tuple as tuple_in, is_touched, share as share_in};
 
+use smallvec::SmallVec;
 use std::alloc::AllocError;
 use tql_catalog::constraint::Key;
 use tql_catalog::table_def::TableDef;
@@ -19,16 +20,18 @@ use tql_expr::columns::Columns;
 use tql_expr::stored::StoredRow;
 use tql_memory::Memory;
 use tql_period::period::Period;
+use tql_row::row::Row;
+use tql_row::tuple::KeyTuple;
 use tql_value::calendar::HIGH;
 use tql_value::comparison::{Comparison, compare};
-use tql_value::value::{Value, View};
+use tql_value::value::View;
 
 /// Returns a current row as its table shows it, from its cells and the moment at which it started.
-pub fn current_row<'a>(definition: &TableDef, cells: &'a [Value], start: i64) -> StoredRow<'a>
-    ensures { shown_by result ≡ shown definition.now (starting start (row_of cells.now)) }
+pub fn current_row<'a>(definition: &TableDef, row: &'a Row, start: i64) -> StoredRow<'a>
+    ensures { shown_by result ≡ shown definition.now (starting start row.now) }
 {
     StoredRow {
-        cells,
+        row,
         system: definition.generated(),
         start,
         end: HIGH,
@@ -39,27 +42,27 @@ pub fn current_row<'a>(definition: &TableDef, cells: &'a [Value], start: i64) ->
 pub(crate) fn current_rows<'a>(
     memory: Memory,
     definition: &TableDef,
-    rows: &'a [Vec<Value, Memory>],
+    rows: &'a [Row],
     start: i64,
 ) -> Result<Vec<StoredRow<'a>, Memory>, AllocError>
-    ensures { IfOk result (λ current. map shown_by current.items ≡ new_rows definition.now start (rows_of rows.now)) }
+    ensures { IfOk result (λ current. map shown_by current.items ≡ new_rows definition.now start rows.now) }
 {
     let mut current = Vec::with_capacity(memory, rows.len())?;
-    for cells in rows {
-        current.push(current_row(definition, cells, start))?;
+    for row in rows {
+        current.push(current_row(definition, row, start))?;
     }
     Ok(current)
 }
 
-/// Returns the values of a row in some columns.
+/// Returns the values of a row in some columns. Up to three make no allocation.
 pub fn tuple_of<'a>(
     memory: Memory,
     row: &'a StoredRow<'_>,
     columns: &[usize],
-) -> Result<Vec<View<'a>, Memory>, AllocError>
+) -> Result<KeyTuple<'a>, AllocError>
     ensures { IfOk result (λ values. map datum_of_view values.items ≡ tuple columns.now (shown_by row.now)) }
 {
-    let mut values = Vec::with_capacity(memory, columns.len())?;
+    let mut values = SmallVec::with_capacity(memory, columns.len())?;
     for column in columns {
         values.push(row.column(*column))?;
     }

@@ -8,7 +8,7 @@ ghost use Rattle.std.specs.Prelude.{◌≡◌, ◌<◌, ◌||◌, ◌&&◌, ℤ,
 ghost use Rattle.std.specs.Prelude.{IsTrue, OnOk};
 ghost use Rattle.std.specs.List.{list_all, list_any};
 ghost use Rattle.tql_spec.specs.Bag.{SameBag};
-ghost use Rattle.tql_spec.specs.Datum.{Row};
+ghost use Rattle.tql_spec.specs.Datum as pure;
 ghost use Rattle.tql_spec.specs.Definition.{Stamped, shown, period_of};
 ghost use Rattle.tql_spec.specs.Definition.{TableDef as Def};
 ghost use Rattle.tql_spec.specs.Constraint.{is_met as met_in, is_met_by, has_null as null_in, shown_rows, covered};
@@ -20,7 +20,7 @@ ghost use Rattle.tql_expr.specs.Shown.{shown_by};
 ghost use Rattle.tql_period.specs.Points.{StartsRise};
 ghost use Rattle.tql_store.specs.Changes.{rows_after};
 ghost use Rattle.tql_store.specs.StoreModel.{has_table, is_among as among};
-ghost use Rattle.tql_value.specs.Views.{datum_of_view, rows_of};
+ghost use Rattle.tql_value.specs.Views.{datum_of_view};
 ghost use Rattle.tql_keys.specs.Asked.{AreRowsOf, IsJudged, new_rows, row_found, row_named};
 ghost use Rattle.tql_keys.specs.Coming.{TuplesRise};
 ghost use Rattle.tql_keys.specs.Named.{of_named};
@@ -45,9 +45,10 @@ use tql_index::index::IntervalIndex;
 use tql_memory::Memory;
 use tql_period::coverage::covers;
 use tql_period::period::Period;
+use tql_row::row::Row;
 use tql_spec::references_at_each_point;
 use tql_store::store::Store;
-use tql_value::value::{Value, View};
+use tql_value::value::View;
 use tql_versions::version::Version;
 
 /// Whether a row has NULL in one of these columns.
@@ -103,7 +104,7 @@ fn add_found(
     }
     add_period(
         definition,
-        &current_row(definition, row.row, row.start),
+        &current_row(definition, &row.kept.row, row.kept.start),
         periods,
     )
 }
@@ -198,7 +199,7 @@ fn periods_after(
 /// Whether the periods cover that of a child row. An empty period is always covered.
 fn is_covered(child: &TableDef, row: &StoredRow<'_>, periods: &[Period]) -> bool
     requires { StartsRise periods.now }
-    ensures { (parent : Def) (parents : List Row) → ((x : ℤ) → any_holds periods.now x ≡ held_at parent parents x)
+    ensures { (parent : Def) (parents : List pure.Row) → ((x : ℤ) → any_holds periods.now x ≡ held_at parent parents x)
         → result ≡ covered parent parents (period_of child.now (shown_by row.now)) }
 {
     references_at_each_point();
@@ -221,8 +222,8 @@ fn meets(
     change: &Change<'_>,
     coming: &[StoredRow<'_>],
 ) -> Result<bool, AllocError>
-    ensures { IfOk result (λ met. (rows : List Row)
-        → ((test : Row → Bool) → list_any test rows
+    ensures { IfOk result (λ met. (rows : List pure.Row)
+        → ((test : pure.Row → Bool) → list_any test rows
         ≡ (any_left parents.now.table.now.definition change.now.removed.now test found.now
         || any_with parents.now.columns.now (map datum_of_view tuple.now) test (map shown_by coming.now)))
         → met ≡ is_met_by child.now parents.now.table.now.definition by_period rows (shown_by row.now)) }
@@ -255,13 +256,13 @@ pub fn is_met<I: IntervalIndex>(
     requires columns { parents.now.columns.now ≡ (reference_of reference.now).parent_columns }
     requires rise { TuplesRise parents.now.columns.now coming.now }
     requires coming { SameBag (map shown_by coming.now)
-        (new_rows parents.now.table.now.definition change.now.moment (rows_of change.now.added.now)) }
+        (new_rows parents.now.table.now.definition change.now.moment change.now.added.now) }
     ensures { IfOk result (λ met. (rows : List Stamped) (gone : Stamped → Bool)
         → AreRowsOf store.now parents.now.table.now rows
         → IsJudged (row_named store.now parents.now.table.now.id) gone change.now.removed.now
         → met ≡ met_in child.now parents.now.table.now.definition (reference_of reference.now)
         (shown_rows parents.now.table.now.definition
-        (rows_after change.now.moment gone (rows_of change.now.added.now) rows)) (shown_by row.now)) }
+        (rows_after change.now.moment gone change.now.added.now rows)) (shown_by row.now)) }
 {
     references_at_each_point();
     if has_null(&reference.columns, row) {
@@ -300,7 +301,7 @@ pub fn is_met_now<I: IntervalIndex>(
         (shown_rows parents.now.table.now.definition rows) (shown_by row.now)) }
 {
     let gone: Vec<usize, Memory> = Vec::new(memory);
-    let come: Vec<Vec<Value, Memory>, Memory> = Vec::new(memory);
+    let come: Vec<Row, Memory> = Vec::new(memory);
     let nothing = Change {
         removed: &gone,
         added: &come,
@@ -328,7 +329,7 @@ fn child_holds_after<I: IntervalIndex>(
         (shown_rows parent.now.definition parents) (shown_rows child.now rows) ≡ true
         → holds ≡ reference_holds child.now parent.now.definition (reference_of reference.now)
         (shown_rows parent.now.definition parents)
-        (shown_rows child.now (rows_after change.now.moment gone (rows_of change.now.added.now) rows))) }
+        (shown_rows child.now (rows_after change.now.moment gone change.now.added.now rows))) }
 {
     let parents = SoughtColumns::of(memory, parent, &reference.parent_columns)?;
     for row in change.added {
@@ -389,7 +390,7 @@ fn is_left_or_met<I: IntervalIndex>(
     requires columns { parents.now.columns.now ≡ (reference_of reference.now).parent_columns }
     requires rise { TuplesRise parents.now.columns.now coming.now }
     requires coming { SameBag (map shown_by coming.now)
-        (new_rows parents.now.table.now.definition change.now.moment (rows_of change.now.added.now)) }
+        (new_rows parents.now.table.now.definition change.now.moment change.now.added.now) }
     ensures { IfOk result (λ met. (rows : List Stamped) (gone : Stamped → Bool)
         → AreRowsOf store.now parents.now.table.now rows
         → IsJudged (row_named store.now parents.now.table.now.id) gone change.now.removed.now
@@ -397,7 +398,7 @@ fn is_left_or_met<I: IntervalIndex>(
         (map shown_by others.now) (shown_by row.now)
         || met_in child.now parents.now.table.now.definition (reference_of reference.now)
         (shown_rows parents.now.table.now.definition
-        (rows_after change.now.moment gone (rows_of change.now.added.now) rows)) (shown_by row.now)) }
+        (rows_after change.now.moment gone change.now.added.now rows)) (shown_by row.now)) }
 {
     let parent = &parents.table.definition;
     if is_child_of_first(child, parent, reference, others, row) {
@@ -427,7 +428,7 @@ fn is_spared<I: IntervalIndex>(
     requires child_columns { children.now.columns.now ≡ (reference_of reference.now).columns }
     requires rise { TuplesRise parents.now.columns.now coming.now }
     requires coming { SameBag (map shown_by coming.now)
-        (new_rows parents.now.table.now.definition change.now.moment (rows_of change.now.added.now)) }
+        (new_rows parents.now.table.now.definition change.now.moment change.now.added.now) }
     ensures { IfOk result (λ spared. (rows others : List Stamped) (gone : Stamped → Bool)
         → AreRowsOf store.now parents.now.table.now rows
         → IsJudged (row_named store.now parents.now.table.now.id) gone change.now.removed.now
@@ -435,7 +436,7 @@ fn is_spared<I: IntervalIndex>(
         → spared ≡ is_spared_but children.now.table.now.definition parents.now.table.now.definition
         (reference_of reference.now)
         (shown_rows parents.now.table.now.definition
-        (rows_after change.now.moment gone (rows_of change.now.added.now) rows))
+        (rows_after change.now.moment gone change.now.added.now rows))
         (shown_rows children.now.table.now.definition others) (map shown_by behind.now) (shown_by row.now)) }
 {
     let child = &children.table.definition;
@@ -444,7 +445,7 @@ fn is_spared<I: IntervalIndex>(
     let found = children.find_in(memory, store, &tuple, reference.by_period, lost)?;
     let others = found.as_slice();
     for other in others {
-        let row = current_row(child, other.row, other.start);
+        let row = current_row(child, &other.kept.row, other.kept.start);
         let met = is_left_or_met(
             memory, store, child, &row, reference, parents, behind, change, coming,
         )?;
@@ -475,7 +476,7 @@ pub fn is_spared_at<I: IntervalIndex>(
     requires child_columns { children.now.columns.now ≡ (reference_of reference.now).columns }
     requires rise { TuplesRise parents.now.columns.now coming.now }
     requires coming { SameBag (map shown_by coming.now)
-        (new_rows parents.now.table.now.definition change.now.moment (rows_of change.now.added.now)) }
+        (new_rows parents.now.table.now.definition change.now.moment change.now.added.now) }
     ensures { IfOk result (λ spared. (rows others : List Stamped) (gone : Stamped → Bool)
         → AreRowsOf store.now parents.now.table.now rows
         → IsJudged (row_named store.now parents.now.table.now.id) gone change.now.removed.now
@@ -483,7 +484,7 @@ pub fn is_spared_at<I: IntervalIndex>(
         → spared ≡ is_first_spared children.now.table.now.definition parents.now.table.now.definition
         (reference_of reference.now)
         (shown_rows parents.now.table.now.definition
-        (rows_after change.now.moment gone (rows_of change.now.added.now) rows))
+        (rows_after change.now.moment gone change.now.added.now rows))
         (shown_rows children.now.table.now.definition others) (map shown_by (drop place going.now))) }
 {
     let (_, left) = going.split_at(place);
@@ -513,7 +514,7 @@ fn are_spared<I: IntervalIndex>(
     requires child_columns { children.now.columns.now ≡ (reference_of reference.now).columns }
     requires rise { TuplesRise parents.now.columns.now coming.now }
     requires coming { SameBag (map shown_by coming.now)
-        (new_rows parents.now.table.now.definition change.now.moment (rows_of change.now.added.now)) }
+        (new_rows parents.now.table.now.definition change.now.moment change.now.added.now) }
     ensures { IfOk result (λ spared. (rows others : List Stamped) (gone : Stamped → Bool)
         → AreRowsOf store.now parents.now.table.now rows
         → IsJudged (row_named store.now parents.now.table.now.id) gone change.now.removed.now
@@ -521,7 +522,7 @@ fn are_spared<I: IntervalIndex>(
         → spared ≡ are_spared_in children.now.table.now.definition parents.now.table.now.definition
         (reference_of reference.now)
         (shown_rows parents.now.table.now.definition
-        (rows_after change.now.moment gone (rows_of change.now.added.now) rows))
+        (rows_after change.now.moment gone change.now.added.now rows))
         (shown_rows children.now.table.now.definition others) (map shown_by going.now)) }
 {
     for place in 0..going.len() {
@@ -543,12 +544,12 @@ fn add_named<'s, I: IntervalIndex>(
     rows: &mut Vec<StoredRow<'s>, Memory>,
 ) -> Result<(), AllocError>
     requires { IsTrue (has_table store.now table.now.id) }
-    ensures { OnOk result ((test : Row → Bool) → list_all test (map shown_by rows.new.items)
+    ensures { OnOk result ((test : pure.Row → Bool) → list_all test (map shown_by rows.new.items)
         ≡ (list_all test (map shown_by rows.old.items)
         && of_named (λ r. test (shown table.now.definition r)) (row_named store.now table.now.id id))) }
 {
     if let Some(named) = store.row(table.id, id) {
-        rows.push(current_row(&table.definition, named.row, named.start))?;
+        rows.push(current_row(&table.definition, &named.kept.row, named.kept.start))?;
     }
     Ok(())
 }
@@ -561,7 +562,7 @@ pub fn rows_that_go<'s, I: IntervalIndex>(
     change: &Change<'_>,
 ) -> Result<Vec<StoredRow<'s>, Memory>, AllocError>
     requires { IsTrue (has_table store.now table.now.id) }
-    ensures { IfOk result (λ rows. (test : Row → Bool) → list_all test (map shown_by rows.items)
+    ensures { IfOk result (λ rows. (test : pure.Row → Bool) → list_all test (map shown_by rows.items)
         ≡ list_all (λ id. of_named (λ r. test (shown table.now.definition r)) (row_named store.now table.now.id id))
         change.now.removed.now) }
 {
@@ -605,7 +606,7 @@ fn parent_holds_after<I: IntervalIndex>(
         → reference_holds child.now.definition parent.now.definition (reference_of reference.now)
         (shown_rows parent.now.definition rows) (shown_rows child.now.definition children) ≡ true
         → holds ≡ reference_holds child.now.definition parent.now.definition (reference_of reference.now)
-        (shown_rows parent.now.definition (rows_after change.now.moment gone (rows_of change.now.added.now) rows))
+        (shown_rows parent.now.definition (rows_after change.now.moment gone change.now.added.now rows))
         (shown_rows child.now.definition children)) }
 {
     references_at_each_point();
@@ -638,7 +639,7 @@ pub(crate) fn child_after<I: IntervalIndex>(
         (shown_rows parent.now.definition parents) (shown_rows child.now.definition rows) ≡ true
         → holds ≡ reference_holds child.now.definition parent.now.definition (reference_of reference.now)
         (shown_rows parent.now.definition parents)
-        (shown_rows child.now.definition (rows_after change.now.moment gone (rows_of change.now.added.now) rows))) }
+        (shown_rows child.now.definition (rows_after change.now.moment gone change.now.added.now rows))) }
 {
     if are_kept(
         store,
@@ -673,7 +674,7 @@ pub(crate) fn parent_after<I: IntervalIndex>(
         → reference_holds child.now.definition parent.now.definition (reference_of reference.now)
         (shown_rows parent.now.definition rows) (shown_rows child.now.definition children) ≡ true
         → holds ≡ reference_holds child.now.definition parent.now.definition (reference_of reference.now)
-        (shown_rows parent.now.definition (rows_after change.now.moment gone (rows_of change.now.added.now) rows))
+        (shown_rows parent.now.definition (rows_after change.now.moment gone change.now.added.now rows))
         (shown_rows child.now.definition children)) }
 {
     references_at_each_point();

@@ -4,7 +4,6 @@ ghost use Rattle.std.specs.Prelude.{◌≡◌, not, map, filter, IfOk};
 ghost use Rattle.tql_spec.specs.Constraint.{clash as clash_in, key_holds};
 ghost use Rattle.tql_catalog.specs.Definitions.{key_of};
 ghost use Rattle.tql_expr.specs.Shown.{shown_by};
-ghost use Rattle.tql_value.specs.Views.{rows_of};
 ghost use Rattle.tql_keys.specs.Asked.{new_rows};
 ghost use Rattle.tql_keys.specs.Ranks.{can_clash as can_clash_in, with_first, all_neighbours};
 
@@ -15,7 +14,7 @@ use tql_catalog::constraint::Key;
 use tql_catalog::table_def::TableDef;
 use tql_expr::stored::StoredRow;
 use tql_memory::Memory;
-use tql_value::value::Value;
+use tql_row::row::Row;
 
 /// Whether a row can clash with another. In a key WITHOUT OVERLAPS, one with an empty period cannot.
 pub fn can_clash(definition: &TableDef, key: &Key, row: &StoredRow<'_>) -> bool
@@ -71,11 +70,11 @@ pub(crate) fn are_apart(
     memory: Memory,
     definition: &TableDef,
     key: &Key,
-    rows: &[Vec<Value, Memory>],
+    rows: &[Row],
     moment: i64,
 ) -> Result<bool, AllocError>
     ensures { IfOk result (λ apart. apart
-        ≡ key_holds definition.now (new_rows definition.now moment (rows_of rows.now)) (key_of key.now)) }
+        ≡ key_holds definition.now (new_rows definition.now moment rows.now) (key_of key.now)) }
 {
     let mut rivals = current_rows(memory, definition, rows, moment)?;
     keep_rivals(definition, key, &mut rivals);

@@ -21,90 +21,61 @@ pub struct Counts {
     pub intervals: usize,
 }
 
-/// Returns `count`, plus one if there is an equality.
-fn with_equality(count: usize, equality: Option<Equality>) -> usize
-    ensures { result ≡ with_map count equality }
-{
-    match equality {
-        Some(_) => count.saturating_add(1),
-        None => count,
+impl Counts {
+    /// Returns these counts, plus one place if it names an equality and if it names a key.
+    fn with(self, equality: Option<Equality>, key: Option<&[usize]>) -> Counts
+        ensures maps { result.maps ≡ with_map self.maps equality }
+        ensures keys { result.keys ≡ with_map self.keys key.entry }
+        ensures intervals { result.intervals ≡ self.intervals }
+    {
+        let mut counts = self;
+        if equality.is_some() {
+            counts.maps = self.maps.saturating_add(1);
+        }
+        if key.is_some() {
+            counts.keys = self.keys.saturating_add(1);
+        }
+        counts
     }
-}
 
-/// Returns `count` plus the number of steps that name an equality.
-fn with_steps(count: usize, steps: &[Step<'_>]) -> usize
-    ensures { result ≡ steps_maps count steps.now }
-{
-    let mut maps = count;
-    for step in steps {
-        maps = with_equality(maps, step.equality);
+    /// Returns these counts plus those of the steps.
+    fn with_steps(self, steps: &[Step<'_>]) -> Counts
+        ensures maps { result.maps ≡ steps_maps self.maps steps.now }
+        ensures keys { result.keys ≡ steps_keys self.keys steps.now }
+        ensures intervals { result.intervals ≡ self.intervals }
+    {
+        let mut counts = self;
+        for step in steps {
+            counts = counts.with(step.equality, step.key);
+        }
+        counts
     }
-    maps
-}
 
-/// Returns the number of joins in these chains that name an equality.
-fn chain_maps(chains: &[ChainPlan<'_>]) -> usize
-    ensures { result ≡ chains_maps 0 chains.now }
-{
-    let mut maps = 0;
-    for chain in chains {
-        maps = with_steps(maps, &chain.joins);
+    /// Returns these counts plus those of the joins in the chains.
+    fn with_chains(self, chains: &[ChainPlan<'_>]) -> Counts
+        ensures maps { result.maps ≡ chains_maps self.maps chains.now }
+        ensures keys { result.keys ≡ chains_keys self.keys chains.now }
+        ensures intervals { result.intervals ≡ self.intervals }
+    {
+        let mut counts = self;
+        for chain in chains {
+            counts = counts.with_steps(&chain.joins);
+        }
+        counts
     }
-    maps
-}
 
-/// Returns `count`, plus one if there is a key.
-fn with_key(count: usize, key: Option<&[usize]>) -> usize
-    ensures { result ≡ with_map count key.entry }
-{
-    match key {
-        Some(_) => count.saturating_add(1),
-        None => count,
+    /// Returns these counts plus those of the products.
+    fn with_products(self, products: &[Product<'_>]) -> Counts
+        ensures maps { result.maps ≡ products_maps self.maps products.now }
+        ensures keys { result.keys ≡ products_keys self.keys products.now }
+        ensures intervals { result.intervals ≡ self.intervals }
+    {
+        let mut counts = self;
+        for product in products {
+            counts = counts.with(product.equality, product.key);
+        }
+        counts
     }
-}
-
-/// Returns `count` plus the number of steps that name a key.
-fn with_steps_keys(count: usize, steps: &[Step<'_>]) -> usize
-    ensures { result ≡ steps_keys count steps.now }
-{
-    let mut keys = count;
-    for step in steps {
-        keys = with_key(keys, step.key);
-    }
-    keys
-}
-
-/// Returns `count` plus the number of joins in these chains that name a key.
-fn with_chains_keys(count: usize, chains: &[ChainPlan<'_>]) -> usize
-    ensures { result ≡ chains_keys count chains.now }
-{
-    let mut keys = count;
-    for chain in chains {
-        keys = with_steps_keys(keys, &chain.joins);
-    }
-    keys
-}
-
-/// Returns `count` plus the number of products that name an equality.
-fn with_products(count: usize, products: &[Product<'_>]) -> usize
-    ensures { result ≡ products_maps count products.now }
-{
-    let mut maps = count;
-    for product in products {
-        maps = with_equality(maps, product.equality);
-    }
-    maps
-}
-
-/// Returns `count` plus the number of products that name a key.
-fn with_products_keys(count: usize, products: &[Product<'_>]) -> usize
-    ensures { result ≡ products_keys count products.now }
-{
-    let mut keys = count;
-    for product in products {
-        keys = with_key(keys, product.key);
-    }
-    keys
 }
 
 /// Returns 1 if the access path is by values, with a period or without. Otherwise returns 0.
@@ -134,14 +105,15 @@ impl<'a> Plan<'a> {
         ensures keys { result.keys ≡ keys_of self.now }
         ensures intervals { result.intervals ≡ intervals_of self.now }
     {
-        let maps = with_products(chain_maps(&self.chains), &self.products);
-        let maps = with_equality(maps, self.equality);
-        let keys = with_chains_keys(key_count(self.access.sought()), &self.chains);
-        let keys = with_products_keys(keys, &self.products);
-        Counts {
-            maps,
-            keys: with_key(keys, self.key),
-            intervals: interval_count(self.access.sought()),
-        }
+        let sought = self.access.sought();
+        let first = Counts {
+            maps: 0,
+            keys: key_count(sought),
+            intervals: interval_count(sought),
+        };
+        first
+            .with_chains(&self.chains)
+            .with_products(&self.products)
+            .with(self.equality, self.key)
     }
 }

@@ -9,6 +9,5 @@ mod marks;
 pub mod plan;
 pub mod planner;
 mod products;
-mod screens;
 pub mod stored;
 mod widths;

@@ -6,16 +6,16 @@ ghost use Rattle.tql_expr.specs.Trees.{expr_of, term_in};
 ghost use Rattle.tql_expr.specs.Meaning.{cond, size, trees, HasCond};
 ghost use Rattle.tql_plan_laws.specs.Constants.{literal_of};
 ghost use Rattle.tql_plan_laws.specs.Equalities.{column_of};
-ghost use Rattle.tql_value.specs.Views.{datum_of_value, datum_of_view, plain_comparison};
+ghost use Rattle.tql_value.specs.Views.{datum_of_view, plain_comparison};
 ghost use Rattle.tql_plan_screen.specs.Coded.{compared_test};
 ghost use Rattle.tql_plan_screen.specs.Screens.{compared_with as compared_by, comparison_in, is_admitted, is_met};
 ghost use Rattle.tql_plan_screen.specs.Screens.{turned as turned_sign};
 
 use tql_expr::node::Node;
-use tql_expr::row::cell_at;
 use tql_expr::terms::{CondId, Terms};
+use tql_row::row::Row;
 use tql_value::comparison::{Comparison, compare};
-use tql_value::value::{Value, View};
+use tql_value::value::View;
 
 /// The comparison of a column with a literal.
 #[derive(Clone, Copy)]
@@ -34,25 +34,20 @@ fn holds(sign: Comparison, number: i64, literal: i64) -> bool
 
 /// Whether the stored cells of a row meet a comparison. Numbers, days and moments are compared in place.
 #[tactic(auto, using(crate::proofs::Turned::truth_is))]
-fn is_met_by(compared: &Compared<'_>, row: &[Value]) -> bool
-    ensures { result ≡ is_met (compared_test compared.now) (map datum_of_value row.now) }
+fn is_met_by(compared: &Compared<'_>, row: &Row) -> bool
+    ensures { result ≡ is_met (compared_test compared.now) row.now }
 {
-    match (row.get(compared.column), compared.value) {
-        (Some(Value::Int(number)), View::Int(literal)) => holds(compared.sign, *number, literal),
-        (Some(Value::Day(day)), View::Day(literal)) => holds(compared.sign, *day, literal),
-        (Some(Value::Moment(moment)), View::Moment(literal)) => {
-            holds(compared.sign, *moment, literal)
-        }
-        _ => {
-            let cell = cell_at(row, compared.column);
-            compare(compared.sign, cell, compared.value).is_true()
-        }
+    match (row.column(compared.column), compared.value) {
+        (View::Int(number), View::Int(literal)) => holds(compared.sign, number, literal),
+        (View::Day(day), View::Day(literal)) => holds(compared.sign, day, literal),
+        (View::Moment(moment), View::Moment(literal)) => holds(compared.sign, moment, literal),
+        (cell, literal) => compare(compared.sign, cell, literal).is_true(),
     }
 }
 
 /// Whether the stored cells of a row meet all comparisons.
-pub(crate) fn are_met(comparisons: &[Compared<'_>], row: &[Value]) -> bool
-    ensures { result ≡ is_admitted (map compared_test comparisons.now) (map datum_of_value row.now) }
+pub(crate) fn are_met(comparisons: &[Compared<'_>], row: &Row) -> bool
+    ensures { result ≡ is_admitted (map compared_test comparisons.now) row.now }
 {
     for compared in comparisons {
         if !is_met_by(compared, row) {

@@ -1,7 +1,5 @@
 //! Screens: the tests of stored columns by which rows are admitted.
 ghost use Rattle.std.specs.Prelude.{◌≡◌, ◌∷◌, ◌++◌, ◌==◌, [], false, length, map, OnOk, List};
-ghost use Rattle.tql_spec.specs.Datum.{Row};
-ghost use Rattle.tql_value.specs.Views.{datum_of_value};
 ghost use Rattle.tql_plan_screen.specs.Coded.{Admits, among_test, compared_test};
 ghost use Rattle.tql_plan_screen.specs.Screens.{is_admitted, no_screen, ScreenIsEnough, WholeScreenDecides};
 
@@ -13,7 +11,7 @@ use tql_memory::Memory;
 use tql_plan_access::alternatives::Alternatives;
 use tql_plan_access::safe::safe_part_decides;
 use tql_plan_laws::safe_conjuncts_filter;
-use tql_value::value::Value;
+use tql_row::row::Row;
 
 /// Tests of stored columns against literals. Comparisons and sets of values are kept apart, so that a comparison is
 /// asked without a branch on its kind.
@@ -91,8 +89,8 @@ impl<'a> Screen<'a> {
 
     /// Whether the stored cells of a row meet all tests. Allocates no memory.
     #[tactic(auto, using(crate::proofs::Added::both_met))]
-    pub fn admits(&self, row: &[Value]) -> bool
-        ensures { result ≡ is_admitted self.now.tests (map datum_of_value row.now) }
+    pub fn admits(&self, row: &Row) -> bool
+        ensures { result ≡ is_admitted self.now.tests row.now }
     {
         are_met(&self.comparisons, row) && are_among(&self.sets, row)
     }

@@ -4,18 +4,18 @@ ghost use Rattle.std.specs.List.{list_any};
 ghost use Rattle.tql_expr.specs.Meaning.{cond, HasCond};
 ghost use Rattle.tql_plan_access.specs.Alternatives.{values_of};
 ghost use Rattle.tql_plan_laws.specs.Equalities.{agree};
-ghost use Rattle.tql_value.specs.Views.{datum_of_value, datum_of_view};
+ghost use Rattle.tql_value.specs.Views.{datum_of_view};
 ghost use Rattle.tql_plan_screen.specs.Coded.{among_test, chosen_column as column_chosen};
 ghost use Rattle.tql_plan_screen.specs.Coded.{compared_column as column_compared};
 ghost use Rattle.tql_plan_screen.specs.Screens.{is_admitted, is_met};
 
 use crate::compared::comparison_of;
 use tql_expr::node::Node;
-use tql_expr::row::cell_at;
 use tql_expr::terms::{CondId, Terms};
 use tql_plan_access::alternatives::Alternatives;
+use tql_row::row::Row;
 use tql_value::comparison::order;
-use tql_value::value::{Value, View};
+use tql_value::value::View;
 
 /// Whether a set has a value, found by halving. NULL is in no set.
 fn has_value(set: &Alternatives<'_>, value: View<'_>) -> bool
@@ -27,15 +27,15 @@ fn has_value(set: &Alternatives<'_>, value: View<'_>) -> bool
 }
 
 /// Whether a row's value in the column of a set is in the set.
-fn is_among(set: &Alternatives<'_>, row: &[Value]) -> bool
-    ensures { result ≡ is_met (among_test set.now) (map datum_of_value row.now) }
+fn is_among(set: &Alternatives<'_>, row: &Row) -> bool
+    ensures { result ≡ is_met (among_test set.now) row.now }
 {
-    has_value(set, cell_at(row, set.column))
+    has_value(set, row.column(set.column))
 }
 
 /// Whether a row's values are in all sets.
-pub(crate) fn are_among(sets: &[Alternatives<'_>], row: &[Value]) -> bool
-    ensures { result ≡ is_admitted (map among_test sets.now) (map datum_of_value row.now) }
+pub(crate) fn are_among(sets: &[Alternatives<'_>], row: &Row) -> bool
+    ensures { result ≡ is_admitted (map among_test sets.now) row.now }
 {
     for set in sets {
         if !is_among(set, row) {

@@ -1,7 +1,7 @@
-//! Rows in little memory: the cells of a row as bytes, side by side, in the row itself where they are few.
+//! Rows of a table, packed into bytes. A short row takes no memory but its own.
 #![tactic(auto)]
 
-pub mod cell;
+mod cell;
 pub mod row;
 pub mod tuple;
-pub mod writing;
+mod writing;

@@ -1,22 +1,28 @@
-//! A row in little memory.
+//! A row of a table, packed into bytes.
+//!
+//! The bytes of a row begin with the number of its columns: one byte if there are fewer than 255, else the byte 255 and
+//! eight bytes, the lowest first. The cells of the columns follow (see `cell`), one after another. A reader skips the
+//! cells before the one that it needs.
 ghost use Rattle.std.specs.Prelude.{◌≡◌, ◌≤◌, ◌<◌, ◌^◌, [], IfOk, length, map, slice_index_or};
 ghost use Rattle.tql_spec.specs.Datum.{Null};
 ghost use Rattle.tql_spec.specs.Definition.{cell};
 ghost use Rattle.tql_value.specs.Views.{datum_of_view, datum_of_value};
-ghost use Rattle.tql_row.specs.Cells.{IsRow, row_of, width_of};
+ghost use Rattle.tql_row.specs.Cells.{IsRow, cells_part, row_of, width_of};
 
-use crate::cell::{next, read};
-use crate::writing::{Bytes, put_each};
+use crate::cell::{eight, next, read};
+use crate::writing::packed;
 use smallvec::SmallVec;
 use std::alloc::AllocError;
 use std::marker::Model;
 use tql_memory::Memory;
 use tql_value::value::{Value, View};
 
-/// A row. Contracts see it as its values. One of few short values takes no memory but its own.
+/// A row of a table. Its model is the list of its values.
 #[derive(Drop)]
 pub struct Row {
-    bytes: Bytes,
+    // 40 bytes hold three whole numbers and a text of 20 bytes, and make a `Row` of 64 bytes. A longer row has its
+    // bytes in an allocation of just their number.
+    bytes: SmallVec<u8, 40, Memory>,
 }
 
 impl Model for Row {
@@ -30,16 +36,31 @@ impl Model for Row {
     ghost invariant = { λ r. IsRow r.bytes.items };
 }
 
-/// How many cells the row of these bytes has.
+/// Returns the number of columns of a row with these bytes.
 fn width(bytes: &[u8]) -> usize
     requires { IsRow bytes.now }
-    ensures value { result ≡ width_of bytes.now }
-    ensures small { result < 2 ^ 16 }
+    ensures { result ≡ width_of bytes.now }
 {
-    u16::from_le_bytes([bytes[0], bytes[1]]) as usize
+    if bytes[0] < 255 {
+        bytes[0] as usize
+    } else {
+        eight(bytes) as usize
+    }
 }
 
-/// The value in a column of the row of these bytes; NULL past the last one.
+/// Returns the cells of a row with these bytes.
+fn cells(bytes: &[u8]) -> &[u8]
+    requires { IsRow bytes.now }
+    ensures { result.now ≡ cells_part bytes.now }
+{
+    if bytes[0] < 255 {
+        &bytes[1..]
+    } else {
+        &bytes[9..]
+    }
+}
+
+/// Returns the value in a column of a row with these bytes, or NULL past the last column.
 fn column(bytes: &[u8], place: usize) -> View<'_>
     requires { IsRow bytes.now }
     ensures { datum_of_view result ≡ slice_index_or (row_of bytes.now) place Null }
@@ -47,14 +68,14 @@ fn column(bytes: &[u8], place: usize) -> View<'_>
     if width(bytes) <= place {
         return View::Null;
     }
-    let mut rest = &bytes[2..];
+    let mut rest = cells(bytes);
     for _ in 0..place {
         rest = next(rest);
     }
     read(rest)
 }
 
-/// Returns the values for reading.
+/// Returns views of these values.
 fn views_of<'a>(
     memory: Memory,
     values: &'a [Value],
@@ -75,11 +96,10 @@ impl Row {
     {
         let mut bytes = SmallVec::new(memory);
         bytes.push_reserved(0);
-        bytes.push_reserved(0);
         Row { bytes }
     }
 
-    /// Returns a row of these values. The only error is a refused allocation.
+    /// Returns a row of these values. Fails only if out of memory.
     pub fn of_values(memory: Memory, values: &[Value]) -> Result<Row, AllocError>
         ensures { IfOk result (λ r. r ≡ map datum_of_value values.now) }
     {
@@ -87,22 +107,21 @@ impl Row {
         Row::of(memory, views.as_slice())
     }
 
-    /// Returns a row of these values. The only error is a refused allocation.
+    /// Returns a row of these values. Fails only if out of memory.
     pub fn of(memory: Memory, values: &[View<'_>]) -> Result<Row, AllocError>
         ensures { IfOk result (λ r. r ≡ map datum_of_view values.now) }
     {
-        let Ok(width) = u16::try_from(values.len()) else {
-            return Err(AllocError);
-        };
-        let mut bytes = SmallVec::from_slice(memory, &width.to_le_bytes())?;
-        put_each(&mut bytes, values)?;
-        Ok(Row { bytes })
+        // A row of up to 128 bytes is packed on the stack, so that the copy is its only allocation.
+        let packed = packed(memory, values)?;
+        Ok(Row {
+            bytes: SmallVec::from_slice(memory, packed.as_slice())?,
+        })
     }
 
-    /// Returns the number of columns.
+    /// Returns the number of columns. There is at least one byte for each.
     pub fn width(&self) -> usize
         ensures value { result ≡ length self.now }
-        ensures small { result < 2 ^ 16 }
+        ensures small { result < 2 ^ 63 }
     {
         width(self.bytes.as_slice())
     }

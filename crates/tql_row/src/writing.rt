@@ -1,19 +1,29 @@
-//! The cells of a row, written as bytes.
+//! Packs values into the bytes of a row: `row` and `cell` describe these bytes.
 ghost use Rattle.std.specs.Prelude.{◌≡◌, ◌≤◌, ◌<◌, ◌++◌, ◌∷◌, List, ℕ, OnOk, IfOk, length, map};
 ghost use Rattle.std.specs.Int.{w16, to_le_bytes};
 ghost use Rattle.tql_spec.specs.Datum.{Null, Text};
 ghost use Rattle.tql_value.specs.Views.{datum_of_view};
-ghost use Rattle.tql_row.specs.Cells.{datum_of_number, front_of_text, Adds, IsWritten};
+ghost use Rattle.tql_row.specs.Cells.{datum_of_number, front_of_row, front_of_text, Adds, IsPacked, IsWritten};
 
 use smallvec::SmallVec;
 use std::alloc::AllocError;
 use tql_memory::Memory;
 use tql_value::value::View;
 
-/// The bytes of a row: so many stand in the row itself.
-pub type Bytes = SmallVec<u8, 40, Memory>;
+/// The bytes of a row while it is packed. Up to 128 of them take no allocation.
+pub(crate) type Bytes = SmallVec<u8, 128, Memory>;
 
-/// Adds a tag, and the bytes behind it.
+/// Appends the number of columns of a row.
+fn put_width(bytes: &mut Bytes, width: usize) -> Result<(), AllocError>
+    ensures { OnOk result (bytes.new.items ≡ bytes.old.items ++ front_of_row width) }
+{
+    if width < 255 {
+        return bytes.extend_from_slice(&[width as u8]);
+    }
+    put(bytes, 255, &(width as u64).to_le_bytes())
+}
+
+/// Appends a tag and the bytes after it.
 fn put(bytes: &mut Bytes, tag: u8, rest: &[u8]) -> Result<(), AllocError>
     ensures { OnOk result (bytes.new.items ≡ bytes.old.items ++ tag ∷ rest.now) }
 {
@@ -21,7 +31,7 @@ fn put(bytes: &mut Bytes, tag: u8, rest: &[u8]) -> Result<(), AllocError>
     bytes.extend_from_slice(rest)
 }
 
-/// Adds the cell of a number of one byte.
+/// Appends the cell of a number of one byte.
 #[tactic(auto, using(crate::proofs::CellLemmas::adds_one))]
 fn put_one(bytes: &mut Bytes, kind: u8, number: i8) -> Result<(), AllocError>
     requires { kind ≤ 3 }
@@ -30,7 +40,7 @@ fn put_one(bytes: &mut Bytes, kind: u8, number: i8) -> Result<(), AllocError>
     put(bytes, kind * 16 + 1, &[number.cast_unsigned()])
 }
 
-/// Adds the cell of a number of two bytes.
+/// Appends the cell of a number of two bytes.
 #[tactic(auto, using(crate::proofs::CellLemmas::adds_two))]
 fn put_two(bytes: &mut Bytes, kind: u8, number: i16) -> Result<(), AllocError>
     requires { kind ≤ 3 }
@@ -39,7 +49,7 @@ fn put_two(bytes: &mut Bytes, kind: u8, number: i16) -> Result<(), AllocError>
     put(bytes, kind * 16 + 2, &number.to_le_bytes())
 }
 
-/// Adds the cell of a number of four bytes.
+/// Appends the cell of a number of four bytes.
 #[tactic(auto, using(crate::proofs::CellLemmas::adds_four))]
 fn put_four(bytes: &mut Bytes, kind: u8, number: i32) -> Result<(), AllocError>
     requires { kind ≤ 3 }
@@ -48,7 +58,7 @@ fn put_four(bytes: &mut Bytes, kind: u8, number: i32) -> Result<(), AllocError>
     put(bytes, kind * 16 + 4, &number.to_le_bytes())
 }
 
-/// Adds the cell of a number of eight bytes.
+/// Appends the cell of a number of eight bytes.
 #[tactic(auto, using(crate::proofs::CellLemmas::adds_eight))]
 fn put_eight(bytes: &mut Bytes, kind: u8, number: i64) -> Result<(), AllocError>
     requires { kind ≤ 3 }
@@ -57,7 +67,7 @@ fn put_eight(bytes: &mut Bytes, kind: u8, number: i64) -> Result<(), AllocError>
     put(bytes, kind * 16 + 8, &number.to_le_bytes())
 }
 
-/// Adds the cell of a number of a kind, in as few bytes as it needs.
+/// Appends the cell of a number of a kind, in the fewest bytes that can represent it.
 fn put_number(bytes: &mut Bytes, kind: u8, number: i64) -> Result<(), AllocError>
     requires { kind ≤ 3 }
     ensures { OnOk result (Adds bytes.old.items bytes.new.items (datum_of_number kind number)) }
@@ -74,7 +84,7 @@ fn put_number(bytes: &mut Bytes, kind: u8, number: i64) -> Result<(), AllocError
     put_eight(bytes, kind, number)
 }
 
-/// Adds the cell of NULL.
+/// Appends the cell of NULL.
 #[tactic(auto, using(crate::proofs::CellLemmas::adds_null))]
 fn put_null(bytes: &mut Bytes) -> Result<(), AllocError>
     ensures { OnOk result (Adds bytes.old.items bytes.new.items Null) }
@@ -82,7 +92,7 @@ fn put_null(bytes: &mut Bytes) -> Result<(), AllocError>
     put(bytes, 0, &[])
 }
 
-/// Adds the tag and the length of a text.
+/// Appends the tag and the length of the cell of a text.
 fn put_length(bytes: &mut Bytes, length: usize) -> Result<(), AllocError>
     ensures { OnOk result (bytes.new.items ≡ bytes.old.items ++ front_of_text length) }
 {
@@ -92,7 +102,7 @@ fn put_length(bytes: &mut Bytes, length: usize) -> Result<(), AllocError>
     put(bytes, 65, &(length as u64).to_le_bytes())
 }
 
-/// Adds the cell of a text.
+/// Appends the cell of a text.
 #[tactic(auto, using(crate::proofs::CellLemmas::adds_text))]
 fn put_text(bytes: &mut Bytes, text: &str) -> Result<(), AllocError>
     ensures { OnOk result (Adds bytes.old.items bytes.new.items (Text text.now)) }
@@ -101,7 +111,7 @@ fn put_text(bytes: &mut Bytes, text: &str) -> Result<(), AllocError>
     bytes.extend_from_slice(text.as_bytes())
 }
 
-/// Adds the cell of a value.
+/// Appends the cell of a value.
 fn put_value(bytes: &mut Bytes, value: View<'_>) -> Result<(), AllocError>
     ensures { OnOk result (Adds bytes.old.items bytes.new.items (datum_of_view value.entry)) }
 {
@@ -114,12 +124,22 @@ fn put_value(bytes: &mut Bytes, value: View<'_>) -> Result<(), AllocError>
     }
 }
 
-/// Adds the cells of values.
-pub fn put_each(bytes: &mut Bytes, values: &[View<'_>]) -> Result<(), AllocError>
+/// Appends the cells of values.
+fn put_each(bytes: &mut Bytes, values: &[View<'_>]) -> Result<(), AllocError>
     ensures { OnOk result (IsWritten bytes.old.items (map datum_of_view values.now) bytes.new.items) }
 {
     for value in values {
         put_value(bytes, *value)?;
     }
     Ok(())
+}
+
+/// Returns the bytes of a row of these values. Fails only if out of memory.
+pub(crate) fn packed(memory: Memory, values: &[View<'_>]) -> Result<Bytes, AllocError>
+    ensures { IfOk result (λ bytes. IsPacked (map datum_of_view values.now) bytes.items) }
+{
+    let mut bytes = SmallVec::new(memory);
+    put_width(&mut bytes, values.len())?;
+    put_each(&mut bytes, values)?;
+    Ok(bytes)
 }

@@ -12,8 +12,8 @@ returns c =
     let d = c.args.definition.now in
     let m = c.args.change.now.moment in
     let added = c.args.change.now.added.now in
-    let v = c.in_ok-cells.cells.now in
-    let k = c.in_ok-cells.ensures.lookup in
+    let v = c.in_ok-row.row.now in
+    let k = c.in_ok-row.ensures.lookup in
     let there : slice_get added c.args.number ≡ Some v = slice_get_read added (length added) c.args.number v refl
     (ltb-true c.args.number (length added) (sym k.0)) k.1 in
     let row : shown_by c.current_row.result ≡ new_row d m v = search (rules, tests) in

@@ -9,7 +9,6 @@ use Rattle.tql_spec.specs.Definition.{TableDef, Reference, table_at, place_of}
 use Rattle.tql_catalog.specs.Defined.{is_reference}
 use Rattle.tql_catalog.specs.Definitions.{reference_of}
 use Rattle.tql_catalog.specs.Tables.{definitions_of}
-use Rattle.tql_value.specs.Views.{rows_of}
 use Rattle.tql_keys.specs.Checked.{copy_after, has_parent}
 use Rattle.tql_keys.proofs.Earlier.{parents_are_earlier}
 use Rattle.tql_keys.proofs.WholeCopy.{as_many}
@@ -96,7 +95,7 @@ returns g c =
     let tables = c.args.catalog.now in
     let m = c.args.change.now.moment in
     let removed = c.args.change.now.removed.now in
-    let added = rows_of c.args.change.now.added.now in
+    let added = c.args.change.now.added.now in
     let fails : c.in_ok-reference_after.field-0 ≡ false = search (rules, tests) in
     let after : FailsAfter c.args.store.now tables c.args.place removed m added u n = λ copy gone f is judged at held.
     let next = copy_after m c.args.place gone added copy in

@@ -5,7 +5,6 @@ use Rattle.tql_spec.specs.Bag.{SameBag}
 use Rattle.tql_spec.specs.History.{rows_in}
 use Rattle.tql_catalog.specs.Tables.{definitions_of}
 use Rattle.tql_store.specs.Changes.{rows_after}
-use Rattle.tql_value.specs.Views.{rows_of}
 use Rattle.tql_keys.proofs.Faults.{no_faults}
 use Rattle.tql_keys.proofs.PointTests.{refused_as_points}
 use Rattle.tql_keys.proofs.Told.{told_first, told_at_points, tests_before}
@@ -17,7 +16,7 @@ returns-clause-tests g c copy rows gone is goes held same =
     let D = definitions_of c.args.catalog.now in
     let t = c.args.place in
     let before = no_faults D copy held in
-    let bag = subst (λ (z : ℤ). SameBag rows (rows_after z gone (rows_of c.args.delta.now.added.items)
+    let bag = subst (λ (z : ℤ). SameBag rows (rows_after z gone c.args.delta.now.added.items
     (rows_in copy t))) (sym (to_z-of_z c.ranges.moment)) same in
     told_first D (slice_set copy t rows) c.test.result (c.test.ensures copy rows gone is goes before.0 before.1 bag)
 
@@ -26,7 +25,7 @@ returns-clause-points g c copy rows gone is goes held same =
     let D = definitions_of c.args.catalog.now in
     let t = c.args.place in
     let before = tests_before D copy held in
-    let bag = subst (λ (z : ℤ). SameBag rows (rows_after z gone (rows_of c.args.delta.now.added.items)
+    let bag = subst (λ (z : ℤ). SameBag rows (rows_after z gone c.args.delta.now.added.items
     (rows_in copy t))) (sym (to_z-of_z c.ranges.moment)) same in
     told_at_points D (slice_set copy t rows) c.test.result
     (as_long copy t rows ∙ is.as_many ∙ sym (as_many c.args.catalog.now))
@@ -37,7 +36,7 @@ returns-clause-refusals g c copy rows gone is goes held same =
     let D = definitions_of c.args.catalog.now in
     let t = c.args.place in
     let before = tests_before D copy held in
-    let bag = subst (λ (z : ℤ). SameBag rows (rows_after z gone (rows_of c.args.delta.now.added.items)
+    let bag = subst (λ (z : ℤ). SameBag rows (rows_after z gone c.args.delta.now.added.items
     (rows_in copy t))) (sym (to_z-of_z c.ranges.moment)) same in
     refused_as_points D (slice_set copy t rows) c.test.result
     (as_long copy t rows ∙ is.as_many ∙ sym (as_many c.args.catalog.now))

@@ -5,7 +5,6 @@ use Rattle.tql_spec.specs.History.{rows_in}
 use Rattle.tql_catalog.specs.Definitions.{reference_of}
 use Rattle.tql_catalog.specs.Tables.{definitions_of}
 use Rattle.tql_store.specs.Changes.{rows_after}
-use Rattle.tql_value.specs.Views.{rows_of}
 use Rattle.tql_keys.specs.Checked.{copy_after}
 use Rattle.tql_keys.proofs.WholeReferences.{rows_elsewhere, rows_there, told_of_copy, held_in_copy}
 use Rattle.tql_keys.proofs.check.reference_between.Goals as goal
@@ -20,7 +19,7 @@ returns-then-child-place g c =
     let p = c.args.parent in
     let m = c.args.change.now.moment in
     let f = reference_of c.args.reference.now in
-    let added = rows_of c.args.change.now.added.now in
+    let added = c.args.change.now.added.now in
     let x = c.table-from.ensures.definition in
     let y = c.table-to.ensures.definition in
     let ut : u ≡ t = c.if-child-place.true in
@@ -48,7 +47,7 @@ returns-then-parent-place g c =
     let p = c.args.parent in
     let m = c.args.change.now.moment in
     let f = reference_of c.args.reference.now in
-    let added = rows_of c.args.change.now.added.now in
+    let added = c.args.change.now.added.now in
     let x = c.table-from.ensures.definition in
     let y = c.table-to.ensures.definition in
     let pt : p ≡ t = c.if-parent-place.true in
@@ -78,7 +77,7 @@ returns g c copy gone is judged before =
     let p = c.args.parent in
     let m = c.args.change.now.moment in
     let f = reference_of c.args.reference.now in
-    let added = rows_of c.args.change.now.added.now in
+    let added = c.args.change.now.added.now in
     let x = c.table-from.ensures.definition in
     let y = c.table-to.ensures.definition in
     let held = held_in_copy D copy u p f from.definition to.definition x y before in

@@ -10,7 +10,6 @@ use Rattle.tql_spec.proofs.Constraints.{reference_test}
 use Rattle.tql_catalog.specs.Referring.{referring_to}
 use Rattle.tql_catalog.specs.Tables.{definitions_of}
 use Rattle.tql_store.specs.Changes.{rows_after}
-use Rattle.tql_value.specs.Views.{rows_of}
 use Rattle.tql_keys.specs.Checked.{references_hold_of}
 use Rattle.tql_keys.proofs.Stepping.{one_left, none_left}
 use Rattle.tql_keys.proofs.Touching.{touching_decide}
@@ -27,7 +26,7 @@ pub returns-then-not-own : goal.returns-then-not-own
 returns-then-not-own g c copy gone is judged h =
     let D = definitions_of c.args.catalog.now in
     let t = c.args.place in
-    let rows = rows_after c.args.change.now.moment gone (rows_of c.args.change.now.added.now) (rows_in copy t) in
+    let rows = rows_after c.args.change.now.moment gone c.args.change.now.added.now (rows_in copy t) in
     let after = slice_set copy t rows in
     let P : ℕ → Bool = references_hold_of D after in
     let n : length copy ≡ length D = is.as_many ∙ sym (as_many c.args.catalog.now) in
@@ -42,7 +41,7 @@ pub returns-then-not-theirs : goal.returns-then-not-theirs
 returns-then-not-theirs g c copy gone is judged h =
     let D = definitions_of c.args.catalog.now in
     let t = c.args.place in
-    let rows = rows_after c.args.change.now.moment gone (rows_of c.args.change.now.added.now) (rows_in copy t) in
+    let rows = rows_after c.args.change.now.moment gone c.args.change.now.added.now (rows_in copy t) in
     let after = slice_set copy t rows in
     let P : ℕ → Bool = references_hold_of D after in
     let n : length copy ≡ length D = is.as_many ∙ sym (as_many c.args.catalog.now) in
@@ -71,7 +70,7 @@ pub loop-child-preserved : goal.loop-child-preserved
 loop-child-preserved g c copy gone is judged h =
     let D = definitions_of c.args.catalog.now in
     let t = c.args.place in
-    let rows = rows_after c.args.change.now.moment gone (rows_of c.args.change.now.added.now) (rows_in copy t) in
+    let rows = rows_after c.args.change.now.moment gone c.args.change.now.added.now (rows_in copy t) in
     let after = slice_set copy t rows in
     let P : ℕ → Bool = references_hold_of D after in
     let n : length copy ≡ length D = is.as_many ∙ sym (as_many c.args.catalog.now) in
@@ -95,7 +94,7 @@ pub returns : goal.returns
 returns g c copy gone is judged h =
     let D = definitions_of c.args.catalog.now in
     let t = c.args.place in
-    let rows = rows_after c.args.change.now.moment gone (rows_of c.args.change.now.added.now) (rows_in copy t) in
+    let rows = rows_after c.args.change.now.moment gone c.args.change.now.added.now (rows_in copy t) in
     let after = slice_set copy t rows in
     let P : ℕ → Bool = references_hold_of D after in
     let n : length copy ≡ length D = is.as_many ∙ sym (as_many c.args.catalog.now) in

@@ -4,7 +4,6 @@ use Rattle.tql_spec.specs.Constraint.{references_hold}
 use Rattle.tql_spec.specs.Definition.{Stamped}
 use Rattle.tql_spec.specs.History.{Copy}
 use Rattle.tql_catalog.specs.Tables.{definitions_of}
-use Rattle.tql_value.specs.Views.{rows_of}
 use Rattle.tql_keys.specs.Checked.{AreJudged, IsCopyOf, copy_after, references_hold_of}
 use Rattle.tql_keys.proofs.check.references_after.Given as goal
 
@@ -15,6 +14,6 @@ invariant-loop-child g l =
     → AreJudged l.store l.catalog l.place gone l.change.removed.now
     → references_hold (definitions_of l.catalog) copy ≡ true
     → list_all (references_hold_of (definitions_of l.catalog)
-    (copy_after l.change.moment l.place gone (rows_of l.change.added.now) copy)) (drop l.child-index l.child-items)
+    (copy_after l.change.moment l.place gone l.change.added.now copy)) (drop l.child-index l.child-items)
     ≡ list_all (references_hold_of (definitions_of l.catalog)
-    (copy_after l.change.moment l.place gone (rows_of l.change.added.now) copy)) l.child-items
+    (copy_after l.change.moment l.place gone l.change.added.now copy)) l.child-items

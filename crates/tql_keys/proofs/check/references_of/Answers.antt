@@ -6,7 +6,6 @@ use Rattle.tql_spec.specs.Definition.{TableDef, Reference, table_at}
 use Rattle.tql_catalog.specs.Defined.{is_reference}
 use Rattle.tql_catalog.specs.Definitions.{reference_of}
 use Rattle.tql_catalog.specs.Tables.{definitions_of}
-use Rattle.tql_value.specs.Views.{rows_of}
 use Rattle.tql_keys.specs.Checked.{copy_after, has_parent}
 use Rattle.tql_keys.proofs.Earlier.{parents_are_earlier}
 use Rattle.tql_keys.proofs.Positions.{part_in, parts_decide, parts_all}
@@ -50,7 +49,7 @@ returns-then-not-branch g c copy gone is judged h =
     let i = c.loop-reference.reference-index in
     let parts : map reference_of items ≡ (table_at D u).references = c.references-reference-items.ensures.references
     ∙ sym (ap (λ (d : TableDef). d.references) c.table-table.ensures.definition) in
-    let after = copy_after c.args.change.now.moment c.args.place gone (rows_of c.args.change.now.added.now) copy in
+    let after = copy_after c.args.change.now.moment c.args.place gone c.args.change.now.added.now copy in
     let P : Reference → Bool = reference_in D after u in
     let inside : i < length items = search rules in
     let before = part_in reference_of (reference_in D copy u) (table_at D u).references items parts i
@@ -72,7 +71,7 @@ loop-reference-preserved g c copy gone is judged h =
     let i = c.loop-reference.reference-index in
     let parts : map reference_of items ≡ (table_at D u).references = c.references-reference-items.ensures.references
     ∙ sym (ap (λ (d : TableDef). d.references) c.table-table.ensures.definition) in
-    let after = copy_after c.args.change.now.moment c.args.place gone (rows_of c.args.change.now.added.now) copy in
+    let after = copy_after c.args.change.now.moment c.args.place gone c.args.change.now.added.now copy in
     let P : Reference → Bool = reference_in D after u in
     let inside : i < length items = search rules in
     let before = part_in reference_of (reference_in D copy u) (table_at D u).references items parts i
@@ -93,7 +92,7 @@ returns g c copy gone is judged h =
     let i = c.loop-reference.reference-index in
     let parts : map reference_of items ≡ (table_at D u).references = c.references-reference-items.ensures.references
     ∙ sym (ap (λ (d : TableDef). d.references) c.table-table.ensures.definition) in
-    let after = copy_after c.args.change.now.moment c.args.place gone (rows_of c.args.change.now.added.now) copy in
+    let after = copy_after c.args.change.now.moment c.args.place gone c.args.change.now.added.now copy in
     let P : Reference → Bool = reference_in D after u in
     let past : length items ≤ i = search rules in
     sym (none_left (λ x. P (reference_of x)) items i past) ∙ c.loop-reference.invariant copy gone is judged h

@@ -9,7 +9,6 @@ use Rattle.tql_catalog.specs.Tables.{definitions_of}
 use Rattle.tql_store.specs.Changes.{rows_after}
 use Rattle.tql_store.specs.Represents.{Judged}
 use Rattle.tql_store.specs.StoreModel.{is_among}
-use Rattle.tql_value.specs.Views.{rows_of}
 use Rattle.tql_keys.specs.Asked.{keys_hold_of}
 use Rattle.tql_keys.specs.Checked.{AreJudged, copy_after}
 use Rattle.tql_keys.proofs.NamedRows.{judged_rows}
@@ -25,12 +24,12 @@ returns-then-not-branch g c copy rows gone is goes keys_held references_held sam
     let h = c.args.store.now in
     let p = c.table.result.now in
     let removed = c.deref-2.result.now in
-    let added = rows_of c.args.delta.now.added.items in
+    let added = c.args.delta.now.added.items in
     let e : to_z w64 (of_z w64 m) ≡ m = to_z-of_z c.ranges.moment in
     let ids : (id : ℕ) → is_among id removed ≡ is_among id c.args.delta.now.removed.items = λ id.
     ap (is_among id) c.deref-2.ensures.value ∙ c.in_ok-removed.ensures.same id
     ∙ ap (is_among id) c.deref.ensures.value in
-    let came : rows_of c.deref-3.result.now ≡ added = ap (λ vs. rows_of vs) c.deref-3.ensures.value in
+    let came : c.deref-3.result.now ≡ added = c.deref-3.ensures.value in
     let judged : AreJudged h c.args.catalog.now t gone removed = λ q at id r named.
     ids id ∙ judged_rows h q.id gone c.args.delta.now.removed.items
     (subst (λ (k : ℕ). Judged h k gone c.args.delta.now.removed.items) (sym (c.requires.table q at)) goes) id r named in
@@ -56,12 +55,12 @@ returns-then-not-branch-2 g c copy rows gone is goes keys_held references_held s
     let h = c.args.store.now in
     let p = c.table.result.now in
     let removed = c.deref-2.result.now in
-    let added = rows_of c.args.delta.now.added.items in
+    let added = c.args.delta.now.added.items in
     let e : to_z w64 (of_z w64 m) ≡ m = to_z-of_z c.ranges.moment in
     let ids : (id : ℕ) → is_among id removed ≡ is_among id c.args.delta.now.removed.items = λ id.
     ap (is_among id) c.deref-2.ensures.value ∙ c.in_ok-removed.ensures.same id
     ∙ ap (is_among id) c.deref.ensures.value in
-    let came : rows_of c.deref-3.result.now ≡ added = ap (λ vs. rows_of vs) c.deref-3.ensures.value in
+    let came : c.deref-3.result.now ≡ added = c.deref-3.ensures.value in
     let judged : AreJudged h c.args.catalog.now t gone removed = λ q at id r named.
     ids id ∙ judged_rows h q.id gone c.args.delta.now.removed.items
     (subst (λ (k : ℕ). Judged h k gone c.args.delta.now.removed.items) (sym (c.requires.table q at)) goes) id r named in
@@ -94,12 +93,12 @@ returns g c copy rows gone is goes keys_held references_held same =
     let h = c.args.store.now in
     let p = c.table.result.now in
     let removed = c.deref-2.result.now in
-    let added = rows_of c.args.delta.now.added.items in
+    let added = c.args.delta.now.added.items in
     let e : to_z w64 (of_z w64 m) ≡ m = to_z-of_z c.ranges.moment in
     let ids : (id : ℕ) → is_among id removed ≡ is_among id c.args.delta.now.removed.items = λ id.
     ap (is_among id) c.deref-2.ensures.value ∙ c.in_ok-removed.ensures.same id
     ∙ ap (is_among id) c.deref.ensures.value in
-    let came : rows_of c.deref-3.result.now ≡ added = ap (λ vs. rows_of vs) c.deref-3.ensures.value in
+    let came : c.deref-3.result.now ≡ added = c.deref-3.ensures.value in
     let judged : AreJudged h c.args.catalog.now t gone removed = λ q at id r named.
     ids id ∙ judged_rows h q.id gone c.args.delta.now.removed.items
     (subst (λ (k : ℕ). Judged h k gone c.args.delta.now.removed.items) (sym (c.requires.table q at)) goes) id r named in

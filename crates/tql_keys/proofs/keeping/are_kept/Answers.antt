@@ -1,7 +1,7 @@
-use Rattle.std.proofs.Common.{◌≡◌, rules, tests, arith, sym, ◌∙◌, ℕ, false, length, nat_eq, Vec}
+use Rattle.std.proofs.Common.{◌≡◌, rules, tests, arith, sym, ◌∙◌, ℕ, false, length, nat_eq}
 use Rattle.std.proofs.lemmas.Iterator.{YieldsList-from_slice, YieldsList-from_zip}
 use Rattle.std.proofs.lemmas.Iterator.Search.{all_from_yields_List}
-use Rattle.tql_value.specs.declared.value.Value.{Value}
+use Rattle.tql_spec.specs.Datum.{Row}
 use Rattle.tql_keys.specs.Asked.{row_named}
 use Rattle.tql_keys.specs.Keeping.{is_kept}
 use Rattle.tql_keys.proofs.KeptLists.{kept_zipped, not_one_each}
@@ -17,7 +17,7 @@ returns-then-ids-rows g c =
     let ids = c.args.change.now.given.now in
     let rows = c.args.change.now.added.now in
     let n : length ids ≡ length rows = omega (arith, c.if-ids-rows.true) in
-    all_from_yields_List (λ (p : ℕ × Vec Value _). is_kept d columns c.args.by_period (named p.0) (new_row d m p.1))
+    all_from_yields_List (λ (p : ℕ × Row). is_kept d columns c.args.by_period (named p.0) (new_row d m p.1))
     c.all.new.self _ c.all.result c.all.ensures.ran
     (YieldsList-from_zip (YieldsList-from_slice ids cc) (YieldsList-from_slice rows cc))
     (λ x b q k. search (rules, tests))

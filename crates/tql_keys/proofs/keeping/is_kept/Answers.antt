@@ -3,7 +3,6 @@ use Rattle.std.specs.Prelude.{Some, option_map}
 use Rattle.tql_spec.specs.Definition.{Version, shown}
 use Rattle.tql_expr.specs.Shown.{shown_by}
 use Rattle.tql_store.specs.Changes.{starting}
-use Rattle.tql_value.specs.Views.{row_of}
 use Rattle.tql_keys.specs.Asked.{row_found, row_named}
 use Rattle.tql_keys.specs.Keeping.{are_alike, is_kept}
 use Rattle.tql_keys.proofs.keeping.is_kept.Goals as goal
@@ -12,7 +11,7 @@ pub returns : goal.returns
 returns g c =
     let d = c.args.table.now.definition in
     let columns = c.args.columns.now in
-    let x = shown d (starting c.args.moment (row_of c.args.cells.now)) in
+    let x = shown d (starting c.args.moment c.args.added.now) in
     let named : row_named c.args.store.now c.args.table.now.id c.args.id ≡ Some (row_found c.in-Some.gone) =
     sym (ap (option_map (λ (v : Version). v.row)) c.in-Some.ensures.row) in
     let old : shown_by c.current_row-old.result ≡ shown d (row_found c.in-Some.gone) = search (rules, tests) in

@@ -5,7 +5,6 @@ use Rattle.tql_spec.specs.Constraint.{key_holds, shown_rows}
 use Rattle.tql_spec.specs.Datum.{Row}
 use Rattle.tql_expr.specs.Shown.{shown_by}
 use Rattle.tql_catalog.specs.Definitions.{key_of}
-use Rattle.tql_value.specs.Views.{rows_of}
 use Rattle.tql_keys.specs.Asked.{new_rows, staying}
 use Rattle.tql_keys.specs.Touched.{is_free}
 use Rattle.tql_keys.proofs.Freely.{key_after}
@@ -16,7 +15,7 @@ pub returns-then-not-apart : goal.returns-then-not-apart
 returns-then-not-apart g c rows gone of judged h =
     let d = c.args.table.now.definition in
     let k = key_of c.args.key.now in
-    let added = rows_of c.args.change.now.added.now in
+    let added = c.args.change.now.added.now in
     let apart : c.in_ok-apart.apart ≡ false = search (rules, tests) in
     let told : c.in_ok-apart.apart ≡ key_holds d (new_rows d c.args.change.now.moment added) k =
     search (rules, tests) in
@@ -31,16 +30,16 @@ returns-then-not-branch g c rows gone of judged h =
     let i = c.loop-row.row-index in
     let F : Row → Bool = is_free d k (shown_rows d (staying gone rows)) in
     let apart : c.in_ok-apart.apart ≡ true = search (rules, tests) in
-    let told : c.in_ok-apart.apart ≡ key_holds d (new_rows d m (rows_of added)) k = search (rules, tests) in
+    let told : c.in_ok-apart.apart ≡ key_holds d (new_rows d m added) k = search (rules, tests) in
     let inside : i < length added = search rules in
     let row : shown_by c.current_row-new.result ≡ new_row d m c.row-item.result = search (rules, tests) in
     let free : c.in_ok-is_free.field-0 ≡ F (shown_by c.current_row-new.result) = search (rules, tests) in
     let left = left_decides F d m added i c.row-item.result (shown_by c.current_row-new.result) c.in_ok-is_free.field-0
     inside c.row-item.is row free in
     let fails : c.in_ok-is_free.field-0 ≡ false = search (rules, tests) in
-    key_after d k m gone (rows_of added) rows true false h (sym apart ∙ told)
+    key_after d k m gone added rows true false h (sym apart ∙ told)
     (sym (sym (c.loop-row.invariant rows gone of judged) ∙ left
-    ∙ ap (λ b. b && list_all F (new_rows d m (rows_of (drop (i + 1) added)))) fails))
+    ∙ ap (λ b. b && list_all F (new_rows d m (drop (i + 1) added))) fails))
 
 pub loop-row-preserved : goal.loop-row-preserved
 loop-row-preserved g c rows gone of judged =
@@ -56,7 +55,7 @@ loop-row-preserved g c rows gone of judged =
     let left = left_decides F d m added i c.row-item.result (shown_by c.current_row-new.result) c.in_ok-is_free.field-0
     inside c.row-item.is row free in
     let holds : c.in_ok-is_free.field-0 ≡ true = search (rules, tests) in
-    sym (left ∙ ap (λ b. b && list_all F (new_rows d m (rows_of (drop (i + 1) added)))) holds)
+    sym (left ∙ ap (λ b. b && list_all F (new_rows d m (drop (i + 1) added))) holds)
     ∙ c.loop-row.invariant rows gone of judged
 
 pub returns : goal.returns
@@ -68,7 +67,7 @@ returns g c rows gone of judged h =
     let i = c.loop-row.row-index in
     let F : Row → Bool = is_free d k (shown_rows d (staying gone rows)) in
     let apart : c.in_ok-apart.apart ≡ true = search (rules, tests) in
-    let told : c.in_ok-apart.apart ≡ key_holds d (new_rows d m (rows_of added)) k = search (rules, tests) in
+    let told : c.in_ok-apart.apart ≡ key_holds d (new_rows d m added) k = search (rules, tests) in
     let past : length added ≤ i = search rules in
-    key_after d k m gone (rows_of added) rows true true h (sym apart ∙ told)
+    key_after d k m gone added rows true true h (sym apart ∙ told)
     (sym (left_none F d m added i past) ∙ c.loop-row.invariant rows gone of judged)

@@ -3,7 +3,6 @@ use Rattle.std.specs.List.{list_all}
 use Rattle.tql_spec.specs.Constraint.{shown_rows}
 use Rattle.tql_spec.specs.Definition.{Stamped}
 use Rattle.tql_catalog.specs.Definitions.{key_of}
-use Rattle.tql_value.specs.Views.{rows_of}
 use Rattle.tql_keys.specs.Asked.{AreRowsOf, IsJudged, new_rows, row_named, staying}
 use Rattle.tql_keys.specs.Touched.{is_free}
 use Rattle.tql_keys.proofs.keys.holds_after.Given as goal
@@ -14,6 +13,6 @@ invariant-loop-row g l =
     (rows : List Stamped) (gone : Stamped → Bool) → AreRowsOf l.store l.table rows
     → IsJudged (row_named l.store l.table.id) gone l.change.removed.now
     → list_all (is_free l.table.definition (key_of l.key) (shown_rows l.table.definition (staying gone rows)))
-    (new_rows l.table.definition l.change.moment (rows_of (drop l.row-index l.change.added.now)))
+    (new_rows l.table.definition l.change.moment (drop l.row-index l.change.added.now))
     ≡ list_all (is_free l.table.definition (key_of l.key) (shown_rows l.table.definition (staying gone rows)))
-    (new_rows l.table.definition l.change.moment (rows_of l.change.added.now))
+    (new_rows l.table.definition l.change.moment l.change.added.now)

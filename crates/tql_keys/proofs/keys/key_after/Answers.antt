@@ -1,7 +1,6 @@
 use Rattle.std.proofs.Common.{sym, ◌∙◌}
 use Rattle.tql_spec.proofs.Members.{both}
 use Rattle.tql_catalog.specs.Definitions.{key_of}
-use Rattle.tql_value.specs.Views.{rows_of}
 use Rattle.tql_keys.specs.Asked.{new_rows, row_named}
 use Rattle.tql_keys.specs.Keeping.{are_kept}
 use Rattle.tql_keys.specs.Rising.{are_distinct}
@@ -17,7 +16,7 @@ returns-then-is_untouched g c rows gone of judged held =
     let d = c.args.table.now.definition in
     let k = key_of c.args.key.now in
     let m = c.args.change.now.moment in
-    let added = rows_of c.args.change.now.added.now in
+    let added = c.args.change.now.added.now in
     let given = c.args.change.now.given.now in
     let removed = c.args.change.now.removed.now in
     let kept = both (are_kept d k.columns k.by_period (row_named h t) given (new_rows d m added)) (are_distinct given)

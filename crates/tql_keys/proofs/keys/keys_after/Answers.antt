@@ -6,7 +6,6 @@ use Rattle.tql_spec.specs.Definition.{Key}
 use Rattle.tql_catalog.specs.Defined.{is_key}
 use Rattle.tql_catalog.specs.Definitions.{key_of}
 use Rattle.tql_store.specs.Changes.{rows_after}
-use Rattle.tql_value.specs.Views.{rows_of}
 use Rattle.tql_keys.proofs.Positions.{part_in, parts_decide, parts_all}
 use Rattle.tql_keys.proofs.Stepping.{none_left}
 use Rattle.tql_keys.proofs.keys.keys_after.Goals as goal
@@ -27,7 +26,7 @@ returns-then-not-branch g c rows gone of judged h =
     let k = c.key-item.result in
     let keys = c.keys-key-items.ensures.keys in
     let P : Key → Bool = key_holds d
-    (shown_rows d (rows_after c.args.change.now.moment gone (rows_of c.args.change.now.added.now) rows)) in
+    (shown_rows d (rows_after c.args.change.now.moment gone c.args.change.now.added.now rows)) in
     let inside : i < length items = search rules in
     let before = part_in key_of (key_holds d (shown_rows d rows)) d.keys items keys i k inside c.key-item.is h in
     let told : c.in_ok-key_after.field-0 ≡ P (key_of k) = c.in_ok-key_after.ensures rows gone of judged before in
@@ -44,7 +43,7 @@ loop-key-preserved g c rows gone of judged h =
     let k = c.key-item.result in
     let keys = c.keys-key-items.ensures.keys in
     let P : Key → Bool = key_holds d
-    (shown_rows d (rows_after c.args.change.now.moment gone (rows_of c.args.change.now.added.now) rows)) in
+    (shown_rows d (rows_after c.args.change.now.moment gone c.args.change.now.added.now rows)) in
     let inside : i < length items = search rules in
     let before = part_in key_of (key_holds d (shown_rows d rows)) d.keys items keys i k inside c.key-item.is h in
     let told : c.in_ok-key_after.field-0 ≡ P (key_of k) = c.in_ok-key_after.ensures rows gone of judged before in
@@ -60,7 +59,7 @@ returns g c rows gone of judged h =
     let i = c.loop-key.key-index in
     let keys = c.keys-key-items.ensures.keys in
     let P : Key → Bool = key_holds d
-    (shown_rows d (rows_after c.args.change.now.moment gone (rows_of c.args.change.now.added.now) rows)) in
+    (shown_rows d (rows_after c.args.change.now.moment gone c.args.change.now.added.now rows)) in
     let past : length items ≤ i = search rules in
     sym (none_left (λ x. P (key_of x)) items i past) ∙ c.loop-key.invariant rows gone of judged h
     ∙ parts_all key_of P d.keys items keys

@@ -4,7 +4,6 @@ use Rattle.tql_spec.specs.Constraint.{key_holds, shown_rows}
 use Rattle.tql_spec.specs.Definition.{Stamped}
 use Rattle.tql_catalog.specs.Definitions.{key_of}
 use Rattle.tql_store.specs.Changes.{rows_after}
-use Rattle.tql_value.specs.Views.{rows_of}
 use Rattle.tql_keys.specs.Asked.{AreRowsOf, IsJudged, keys_hold_of, row_named}
 use Rattle.tql_keys.proofs.keys.keys_after.Given as goal
 
@@ -15,8 +14,8 @@ invariant-loop-key g l =
     → IsJudged (row_named l.store l.table.id) gone l.change.removed.now
     → keys_hold_of l.table.definition (shown_rows l.table.definition rows) ≡ true
     → list_all (λ k. key_holds l.table.definition
-    (shown_rows l.table.definition (rows_after l.change.moment gone (rows_of l.change.added.now) rows)) (key_of k))
+    (shown_rows l.table.definition (rows_after l.change.moment gone l.change.added.now rows)) (key_of k))
     (drop l.key-index l.key-items)
     ≡ list_all (λ k. key_holds l.table.definition
-    (shown_rows l.table.definition (rows_after l.change.moment gone (rows_of l.change.added.now) rows)) (key_of k))
+    (shown_rows l.table.definition (rows_after l.change.moment gone l.change.added.now rows)) (key_of k))
     l.key-items

@@ -6,7 +6,6 @@ use Rattle.tql_catalog.specs.Definitions.{reference_of}
 use Rattle.tql_expr.specs.Shown.{shown_by}
 use Rattle.tql_expr.specs.declared.stored.StoredRow.{StoredRow}
 use Rattle.tql_store.specs.Changes.{rows_after}
-use Rattle.tql_value.specs.Views.{rows_of}
 use Rattle.tql_keys.specs.Touched.{are_spared, is_first_spared}
 use Rattle.tql_keys.proofs.InTurn.{first_left, none_left}
 use Rattle.tql_keys.proofs.references.are_spared.Goals as goal
@@ -16,7 +15,7 @@ returns-then-not-spared g c rows others gone of judged there =
     let d = c.args.parents.now.table.now.definition in
     let cd = c.args.children.now.table.now.definition in
     let f = reference_of c.args.reference.now in
-    let ps = shown_rows d (rows_after c.args.change.now.moment gone (rows_of c.args.change.now.added.now) rows) in
+    let ps = shown_rows d (rows_after c.args.change.now.moment gone c.args.change.now.added.now rows) in
     let cs = shown_rows cd others in
     let going = c.args.going.now in
     let i = c.loop-place.place in
@@ -34,7 +33,7 @@ loop-place-preserved g c rows others gone of judged there =
     let d = c.args.parents.now.table.now.definition in
     let cd = c.args.children.now.table.now.definition in
     let f = reference_of c.args.reference.now in
-    let ps = shown_rows d (rows_after c.args.change.now.moment gone (rows_of c.args.change.now.added.now) rows) in
+    let ps = shown_rows d (rows_after c.args.change.now.moment gone c.args.change.now.added.now rows) in
     let cs = shown_rows cd others in
     let going = c.args.going.now in
     let i = c.loop-place.place in
@@ -52,7 +51,7 @@ returns g c rows others gone of judged there =
     let d = c.args.parents.now.table.now.definition in
     let cd = c.args.children.now.table.now.definition in
     let f = reference_of c.args.reference.now in
-    let ps = shown_rows d (rows_after c.args.change.now.moment gone (rows_of c.args.change.now.added.now) rows) in
+    let ps = shown_rows d (rows_after c.args.change.now.moment gone c.args.change.now.added.now rows) in
     let cs = shown_rows cd others in
     let going = c.args.going.now in
     let i = c.loop-place.place in

@@ -4,7 +4,6 @@ use Rattle.tql_spec.specs.Definition.{Stamped}
 use Rattle.tql_catalog.specs.Definitions.{reference_of}
 use Rattle.tql_expr.specs.Shown.{shown_by}
 use Rattle.tql_store.specs.Changes.{rows_after}
-use Rattle.tql_value.specs.Views.{rows_of}
 use Rattle.tql_keys.specs.Asked.{AreRowsOf, IsJudged, row_named}
 use Rattle.tql_keys.specs.Touched.{are_spared}
 use Rattle.tql_keys.proofs.references.are_spared.Given as goal
@@ -16,8 +15,8 @@ invariant-loop-place g l =
     → IsJudged (row_named l.store l.parents.table.now.id) gone l.change.removed.now
     → AreRowsOf l.store l.children.table.now others
     → are_spared l.children.table.now.definition l.parents.table.now.definition (reference_of l.reference)
-    (shown_rows l.parents.table.now.definition (rows_after l.change.moment gone (rows_of l.change.added.now) rows))
+    (shown_rows l.parents.table.now.definition (rows_after l.change.moment gone l.change.added.now rows))
     (shown_rows l.children.table.now.definition others) (map shown_by (drop l.place l.going))
     ≡ are_spared l.children.table.now.definition l.parents.table.now.definition (reference_of l.reference)
-    (shown_rows l.parents.table.now.definition (rows_after l.change.moment gone (rows_of l.change.added.now) rows))
+    (shown_rows l.parents.table.now.definition (rows_after l.change.moment gone l.change.added.now rows))
     (shown_rows l.children.table.now.definition others) (map shown_by l.going)

@@ -1,6 +1,5 @@
 use Rattle.std.proofs.Common.{◌≡◌, sym, subst, ℕ, true, List}
 use Rattle.tql_catalog.specs.Definitions.{reference_of}
-use Rattle.tql_value.specs.Views.{rows_of}
 use Rattle.tql_keys.specs.Asked.{new_rows, row_named}
 use Rattle.tql_keys.specs.Keeping.{are_kept}
 use Rattle.tql_keys.proofs.KeptReferences.{child_kept_after}
@@ -13,7 +12,7 @@ returns-then-are_kept g c parents rows gone of from held =
     let d = c.args.child.now.definition in
     let f = reference_of c.args.reference.now in
     let m = c.args.change.now.moment in
-    let added = rows_of c.args.change.now.added.now in
+    let added = c.args.change.now.added.now in
     let given = c.args.change.now.given.now in
     let kept : are_kept d f.columns f.by_period (row_named h t) given (new_rows d m added) ≡ true =
     subst (λ (is : List ℕ). are_kept d is f.by_period (row_named h t) given (new_rows d m added) ≡ true)

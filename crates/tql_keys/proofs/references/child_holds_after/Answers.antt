@@ -5,7 +5,6 @@ use Rattle.tql_spec.specs.Constraint.{is_met, shown_rows}
 use Rattle.tql_spec.specs.Datum.{Row}
 use Rattle.tql_expr.specs.Shown.{shown_by}
 use Rattle.tql_catalog.specs.Definitions.{reference_of}
-use Rattle.tql_value.specs.Views.{rows_of}
 use Rattle.tql_keys.specs.Asked.{new_rows}
 use Rattle.tql_keys.proofs.Children.{child_after}
 use Rattle.tql_keys.proofs.Stepping.{new_row, left_decides, left_none}
@@ -26,9 +25,9 @@ returns-then-not-branch g c parents rows gone of h =
     let left = left_decides F d m added i c.row-item.result (shown_by c.current_row-new.result)
     c.in_ok-is_met_now.field-0 inside c.row-item.is row met in
     let fails : c.in_ok-is_met_now.field-0 ≡ false = search (rules, tests) in
-    child_after d p f parents m gone (rows_of added) rows false h
+    child_after d p f parents m gone added rows false h
     (sym (sym (c.loop-row.invariant parents of) ∙ left
-    ∙ ap (λ b. b && list_all F (new_rows d m (rows_of (drop (i + 1) added)))) fails))
+    ∙ ap (λ b. b && list_all F (new_rows d m (drop (i + 1) added))) fails))
 
 pub loop-row-preserved : goal.loop-row-preserved
 loop-row-preserved g c parents of =
@@ -45,7 +44,7 @@ loop-row-preserved g c parents of =
     let left = left_decides F d m added i c.row-item.result (shown_by c.current_row-new.result)
     c.in_ok-is_met_now.field-0 inside c.row-item.is row met in
     let holds : c.in_ok-is_met_now.field-0 ≡ true = search (rules, tests) in
-    sym (left ∙ ap (λ b. b && list_all F (new_rows d m (rows_of (drop (i + 1) added)))) holds)
+    sym (left ∙ ap (λ b. b && list_all F (new_rows d m (drop (i + 1) added))) holds)
     ∙ c.loop-row.invariant parents of
 
 pub returns : goal.returns
@@ -58,5 +57,5 @@ returns g c parents rows gone of h =
     let i = c.loop-row.row-index in
     let F : Row → Bool = is_met d p f (shown_rows p parents) in
     let past : length added ≤ i = search rules in
-    child_after d p f parents m gone (rows_of added) rows true h
+    child_after d p f parents m gone added rows true h
     (sym (left_none F d m added i past) ∙ c.loop-row.invariant parents of)

@@ -5,7 +5,6 @@ use Rattle.tql_spec.specs.Constraint.{is_met, shown_rows}
 use Rattle.tql_catalog.specs.Definitions.{reference_of}
 use Rattle.tql_expr.specs.Shown.{shown_by}
 use Rattle.tql_store.specs.Changes.{rows_after}
-use Rattle.tql_value.specs.Views.{rows_of}
 use Rattle.tql_keys.specs.Touched.{is_child_of_first}
 use Rattle.tql_keys.proofs.references.is_left_or_met.Goals as goal
 
@@ -15,7 +14,7 @@ returns g c = IfOk-weaker c.is_met.result _ _ (λ met h rows gone of judged.
     let f = reference_of c.args.reference.now in
     let r = shown_by c.args.row.now in
     let m = c.args.change.now.moment in
-    let added = rows_of c.args.change.now.added.now in
+    let added = c.args.change.now.added.now in
     let no : is_child_of_first c.args.child.now d f (map shown_by c.args.others.now) r ≡ false =
     search (rules, tests) in
     h rows gone of judged

@@ -8,7 +8,7 @@ use Rattle.tql_expr.specs.Shown.{shown_by}
 use Rattle.tql_catalog.specs.Definitions.{reference_of}
 use Rattle.tql_store.specs.Changes.{rows_after}
 use Rattle.tql_versions.specs.declared.version.Version.{Version}
-use Rattle.tql_value.specs.Views.{datum_of_view, rows_of}
+use Rattle.tql_value.specs.Views.{datum_of_view}
 use Rattle.tql_keys.specs.Asked.{new_rows, row_named, staying}
 use Rattle.tql_keys.specs.Parents.{any_left, any_with}
 use Rattle.tql_keys.specs.Touched.{tuple, has_tuple}
@@ -24,7 +24,7 @@ returns g c = IfOk-weaker c.meets.result _ _ (λ met told rows gone of judged.
     let f = reference_of c.args.reference.now in
     let r = shown_by c.args.row.now in
     let m = c.args.change.now.moment in
-    let added = rows_of c.args.change.now.added.now in
+    let added = c.args.change.now.added.now in
     let removed = c.args.change.now.removed.now in
     let parents = parents_of f (shown_rows d (rows_after m gone added rows)) r in
     let near = parents_near child d f r (shown_rows d (staying gone rows)) (new_rows d m added) in

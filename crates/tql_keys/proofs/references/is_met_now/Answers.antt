@@ -8,7 +8,6 @@ use Rattle.tql_spec.proofs.Bags.{same-refl}
 use Rattle.tql_expr.specs.Shown.{shown_by}
 use Rattle.tql_catalog.specs.Definitions.{reference_of}
 use Rattle.tql_store.specs.Changes.{rows_after}
-use Rattle.tql_value.specs.Views.{rows_of}
 use Rattle.tql_keys.specs.Asked.{IsJudged, new_rows, row_named}
 use Rattle.tql_keys.proofs.Children.{unchanged, none_judged}
 use Rattle.tql_keys.proofs.references.is_met_now.Goals as goal
@@ -21,7 +20,7 @@ returns g c =
     let r = shown_by c.args.row.now in
     let named = row_named c.args.store.now c.args.parents.now.table.now.id in
     let no_ids : c.deref.result.now ≡ [] = search (rules, tests) in
-    let no_rows : rows_of c.deref-2.result.now ≡ [] = ap (λ vs. rows_of vs) (c.deref-2.ensures.value
+    let no_rows : c.deref-2.result.now ≡ [] = (c.deref-2.ensures.value
     ∙ c.new-come.ensures.items) in
     IfOk-weaker c.is_met.result _ _ (λ met h rows of.
     h rows (λ r'. false) of
@@ -33,6 +32,6 @@ returns g c =
 pub is_met-requires-clause-coming : goal.is_met-requires-clause-coming
 is_met-requires-clause-coming g c =
     let d = c.args.parents.now.table.now.definition in
-    let no_rows : rows_of c.deref-2.result.now ≡ [] = ap (λ vs. rows_of vs) (c.deref-2.ensures.value
+    let no_rows : c.deref-2.result.now ≡ [] = (c.deref-2.ensures.value
     ∙ c.new-come.ensures.items) in
     subst (λ (come : List Row). SameBag (map shown_by []) (new_rows d (pos 0) come)) (sym no_rows) (same-refl [])

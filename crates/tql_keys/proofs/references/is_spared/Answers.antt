@@ -8,7 +8,7 @@ use Rattle.tql_expr.specs.Shown.{shown_by}
 use Rattle.tql_catalog.specs.Definitions.{reference_of}
 use Rattle.tql_store.specs.Changes.{rows_after}
 use Rattle.tql_versions.specs.declared.version.Version.{Version}
-use Rattle.tql_value.specs.Views.{datum_of_view, rows_of}
+use Rattle.tql_value.specs.Views.{datum_of_view}
 use Rattle.tql_keys.specs.Asked.{row_found, row_named}
 use Rattle.tql_keys.specs.Touched.{is_child_of_first, tuple}
 use Rattle.tql_keys.proofs.FoundIn.{found_in_as}
@@ -23,7 +23,7 @@ returns-then-not-met g c rows children gone of judged there =
     let f = reference_of c.args.reference.now in
     let t = shown_by c.args.row.now in
     let m = c.args.change.now.moment in
-    let added = rows_of c.args.change.now.added.now in
+    let added = c.args.change.now.added.now in
     let found = c.in_ok-found.found.items in
     let others = c.as_slice-others.result.now in
     let i = c.loop-other.other-index in
@@ -52,7 +52,7 @@ loop-other-preserved g c rows gone of judged =
     let cd = c.args.children.now.table.now.definition in
     let f = reference_of c.args.reference.now in
     let m = c.args.change.now.moment in
-    let added = rows_of c.args.change.now.added.now in
+    let added = c.args.change.now.added.now in
     let others = c.as_slice-others.result.now in
     let i = c.loop-other.other-index in
     let F : Row → Bool = λ r. is_child_of_first cd d f (map shown_by c.args.behind.now) r
@@ -73,7 +73,7 @@ returns g c rows children gone of judged there =
     let f = reference_of c.args.reference.now in
     let t = shown_by c.args.row.now in
     let m = c.args.change.now.moment in
-    let added = rows_of c.args.change.now.added.now in
+    let added = c.args.change.now.added.now in
     let found = c.in_ok-found.found.items in
     let others = c.as_slice-others.result.now in
     let i = c.loop-other.other-index in

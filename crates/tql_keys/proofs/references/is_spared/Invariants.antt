@@ -6,7 +6,6 @@ use Rattle.tql_spec.specs.Definition.{Stamped, shown}
 use Rattle.tql_catalog.specs.Definitions.{reference_of}
 use Rattle.tql_expr.specs.Shown.{shown_by}
 use Rattle.tql_store.specs.Changes.{rows_after}
-use Rattle.tql_value.specs.Views.{rows_of}
 use Rattle.tql_keys.specs.Asked.{AreRowsOf, IsJudged, row_found, row_named}
 use Rattle.tql_keys.specs.Touched.{is_child_of_first}
 use Rattle.tql_keys.proofs.references.is_spared.Given as goal
@@ -19,10 +18,10 @@ invariant-loop-other g l =
     → list_all (λ x. is_child_of_first l.children.table.now.definition l.parents.table.now.definition
     (reference_of l.reference) (map shown_by l.behind) (shown l.children.table.now.definition (row_found x))
     || is_met l.children.table.now.definition l.parents.table.now.definition (reference_of l.reference)
-    (shown_rows l.parents.table.now.definition (rows_after l.change.moment gone (rows_of l.change.added.now) rows))
+    (shown_rows l.parents.table.now.definition (rows_after l.change.moment gone l.change.added.now rows))
     (shown l.children.table.now.definition (row_found x))) (drop l.other-index l.others)
     ≡ list_all (λ x. is_child_of_first l.children.table.now.definition l.parents.table.now.definition
     (reference_of l.reference) (map shown_by l.behind) (shown l.children.table.now.definition (row_found x))
     || is_met l.children.table.now.definition l.parents.table.now.definition (reference_of l.reference)
-    (shown_rows l.parents.table.now.definition (rows_after l.change.moment gone (rows_of l.change.added.now) rows))
+    (shown_rows l.parents.table.now.definition (rows_after l.change.moment gone l.change.added.now rows))
     (shown l.children.table.now.definition (row_found x))) l.others

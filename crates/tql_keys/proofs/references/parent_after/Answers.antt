@@ -1,7 +1,6 @@
 use Rattle.std.proofs.Common.{◌≡◌, sym, subst, ◌∙◌, ℕ, true, List}
 use Rattle.tql_spec.specs.Constraint.{shown_rows}
 use Rattle.tql_catalog.specs.Definitions.{reference_of}
-use Rattle.tql_value.specs.Views.{rows_of}
 use Rattle.tql_keys.specs.Asked.{new_rows, row_named}
 use Rattle.tql_keys.specs.Keeping.{are_kept}
 use Rattle.tql_keys.proofs.KeptLists.{among_bag}
@@ -17,7 +16,7 @@ returns-then-are_kept g c rows children gone of judged there held =
     let cd = c.args.child.now.definition in
     let f = reference_of c.args.reference.now in
     let m = c.args.change.now.moment in
-    let added = rows_of c.args.change.now.added.now in
+    let added = c.args.change.now.added.now in
     let given = c.args.change.now.given.now in
     let removed = c.args.change.now.removed.now in
     let kept : are_kept d f.parent_columns f.by_period (row_named h t) given (new_rows d m added) ≡ true =

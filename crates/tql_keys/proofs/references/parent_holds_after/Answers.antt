@@ -8,7 +8,6 @@ use Rattle.tql_catalog.specs.declared.catalog.Table.{Table}
 use Rattle.tql_expr.specs.Shown.{shown_by}
 use Rattle.tql_expr.specs.declared.stored.StoredRow.{StoredRow}
 use Rattle.tql_store.specs.Changes.{rows_after}
-use Rattle.tql_value.specs.Views.{rows_of}
 use Rattle.tql_keys.specs.Asked.{AreRowsOf, IsJudged, current_rows, row_named}
 use Rattle.tql_keys.specs.Coming.{TuplesRise}
 use Rattle.tql_keys.specs.Touched.{are_spared, is_spared}
@@ -24,7 +23,7 @@ returns g c = IfOk-weaker c.are_spared.result _ _ (λ spared said rows children 
     let cd = c.args.child.now.definition in
     let f = reference_of c.args.reference.now in
     let m = c.args.change.now.moment in
-    let added = rows_of c.args.change.now.added.now in
+    let added = c.args.change.now.added.now in
     let removed = c.args.change.now.removed.now in
     let base = current_rows c.args.store.now c.args.parent.now.id in
     let named = row_named c.args.store.now c.args.parent.now.id in

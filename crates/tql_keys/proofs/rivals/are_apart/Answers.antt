@@ -3,7 +3,6 @@ use Rattle.std.specs.List.Sorted.{IsSorted}
 use Rattle.tql_spec.specs.Query.{by_columns}
 use Rattle.tql_catalog.specs.Definitions.{key_of}
 use Rattle.tql_expr.specs.Shown.{shown_by}
-use Rattle.tql_value.specs.Views.{rows_of}
 use Rattle.tql_keys.specs.Asked.{new_rows}
 use Rattle.tql_keys.specs.Ranks.{can_clash, rank}
 use Rattle.tql_keys.proofs.SortedRivals.{sorted_decide}
@@ -13,7 +12,7 @@ pub returns : goal.returns
 returns c =
     let d = c.args.definition.now in
     let k = key_of c.args.key.now in
-    let all = new_rows d c.args.moment (rows_of c.args.rows.now) in
+    let all = new_rows d c.args.moment c.args.rows.now in
     let rivals = map shown_by c.keep_rivals.new.rows.items in
     let sorted = map shown_by c.sort_by_ranks.new.rows.items in
     let come : map shown_by c.in_ok-rivals.rivals.items ≡ all = search (rules, tests) in
