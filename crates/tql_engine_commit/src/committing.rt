@@ -4,7 +4,6 @@ ghost use Rattle.std.specs.Prelude.{◌≡◌, ◌<ℤ◌, map, IsNone, IsTrue, 
 ghost use Rattle.tql_spec.specs.Calendar.{high};
 ghost use Rattle.tql_store.specs.StoreModel.{has_table, AreRemovable};
 ghost use Rattle.tql_versions.specs.Changes.{Under};
-ghost use Rattle.tql_value.specs.Views.{datum_of_value};
 ghost use Rattle.tql_value.specs.declared.refusal.Refusal.TheVariants.{OutOfMemory};
 ghost use Rattle.tql_engine_state.specs.Committing.{CommitsRows, Undoes, ChangesRows, KeepsRows};
 
@@ -26,7 +25,7 @@ fn commit_rows<I: IntervalIndex>(
     requires removable { AreRemovable store.old delta.table delta.removed.items }
     ensures ok { OnOk result
         (CommitsRows moment delta.table delta.removed.items
-        (map (λ row. map datum_of_value row.items) delta.added.items) store.old store.new) }
+        delta.added.items store.old store.new) }
     ensures err { OnErr result (Undoes moment store.old store.new) }
     ensures memory { IfErr result (λ e. e ≡ OutOfMemory) }
 {
@@ -56,7 +55,7 @@ pub fn change_rows<I: IntervalIndex>(
     requires removable { AreRemovable store.old delta.table delta.removed.items }
     ensures ok { IfOk result
         (λ next. ChangesRows store.old.working clock next delta.table delta.removed.items
-        (map (λ row. map datum_of_value row.items) delta.added.items) store.old store.new) }
+        delta.added.items store.old store.new) }
     ensures err { OnErr result (KeepsRows store.old.working clock store.old store.new) }
     ensures memory { IfErr result (λ e. e ≡ OutOfMemory) }
 {

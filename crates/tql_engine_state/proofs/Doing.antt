@@ -38,7 +38,6 @@ use Rattle.tql_store.proofs.StoreLaws.{same-list}
 use Rattle.tql_spec.proofs.FirstFaults.{none_first}
 use Rattle.tql_store.specs.Represents.{Judged}
 use Rattle.tql_store.specs.declared.store.Delta.{Delta}
-use Rattle.tql_value.specs.Views.{rows_of}
 use Rattle.tql_store.specs.StoreModel.{StoreModel}
 use Rattle.tql_store.specs.Represents.{BeginCopies, CommitAppends, RollbackRestores}
 use Rattle.tql_store.specs.Changes.{newest}
@@ -337,7 +336,7 @@ pub insert_makes : (h : EngineModel) (s : State) (p : CatalogTable) (x : Inserti
 insert_makes h s p x delta st e gives =
     let m : ℤ = (working_now s).moment in
     let rows = working_rows s x.table in
-    let added = rows_of delta.added.items in
+    let added = delta.added.items in
     let sum = insert_outcome p.definition m rows x.columns.items (tuples_in x) (gives.sound m) in
     record {
       place = refl;

@@ -28,7 +28,6 @@ use Rattle.tql_store.specs.Represents.{Judged}
 use Rattle.tql_store.specs.StoreModel.{StoreModel}
 use Rattle.tql_store.specs.declared.store.Delta.{Delta}
 use Rattle.tql_value.specs.Refusals.{refusal_of}
-use Rattle.tql_value.specs.Views.{rows_of}
 use Rattle.tql_value.specs.declared.refusal.Refusal.{Refusal}
 use Rattle.tql_value.specs.declared.refusal.Refusal.TheVariants as r
 use Rattle.tql_engine_state.specs.Committing.{ChangesRows}
@@ -142,11 +141,11 @@ faults_agree h own s t gone added rows ot st bag =
 pub told_for : (h : EngineModel) (own s : State) (t : ℕ) (delta : Delta) (verb : Verb) (c : Change)
     (result : Result (Unit {0}) Refusal) → StandsFor h own → StandsFor h s → (k : Changes h t delta verb c s)
     → TellsFirst (first (constraint_faults (definitions_of h.tables) (slice_set (working_now own).copy t
-    (rows_after h.next k.gone (rows_of delta.added.items) (working_rows own t))))) result
+    (rows_after h.next k.gone delta.added.items (working_rows own t))))) result
     → TellsFirst (first (after_faults s t k.made.rows)) result
 told_for h own s t delta verb c result ot st k told =
     subst (λ (fs : List spec.Refusal). TellsFirst (first fs) result)
-    (faults_agree h own s t k.gone (rows_of delta.added.items) k.made.rows ot st k.rows) told
+    (faults_agree h own s t k.gone delta.added.items k.made.rows ot st k.rows) told
 
 -- ---- the step of the reference model
 
@@ -161,7 +160,7 @@ module _ (h : EngineModel) (s : State) (t : ℕ) (p : Table) (delta : Delta) (ve
   rows = working_rows s t
 
   abbrev added : List Row
-  added = rows_of delta.added.items
+  added = delta.added.items
 
   step_is : step s (ChangeRows c) ≡ unless_refused (first (after_faults s t k.made.rows)) s
       (Done (plain_verb verb) (Some delta.count)) (with_table_rows s t k.made.rows)

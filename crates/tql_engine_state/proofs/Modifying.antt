@@ -36,7 +36,6 @@ use Rattle.tql_versions.specs.Changes.{alive, is_current}
 use Rattle.tql_versions.specs.Readings.{version_shown as version_of}
 use Rattle.tql_versions.specs.declared.version.Version as code
 use Rattle.tql_value.specs.Refusals.{refusal_of}
-use Rattle.tql_value.specs.Views.{rows_of}
 use Rattle.tql_value.specs.declared.refusal.Refusal.{Refusal}
 use Rattle.tql_value.specs.declared.refusal.Refusal.TheVariants as r
 use Rattle.tql_engine_state.specs.Making.{Changes}
@@ -136,7 +135,7 @@ module _ (law : SafeConditionsAreJudged) (no_order : ChangesKeepNoOrder) (by_par
       gone = touches p.definition (portion_in x) (conds_in x);
       judged = judged;
       rows = same-sym (rows_made no_order by_parts p.definition moment (portion_in x) work (conds_in x)
-          all rows (rows_of delta.added.items) (all_rows h s x.table p o seen st there answers)
+          all rows delta.added.items (all_rows h s x.table p o seen st there answers)
           (ap first (sym faults_are) ∙ gives.sound moment)
           (ap (map (λ (r : Stamped). r.cells)) (sym (same_coming (fates_of (dml.rows_in seen)) (fates_of all) news))
           ∙ gives.added moment));

@@ -27,7 +27,6 @@ use Rattle.tql_store.proofs.StoreLaws.{same-list}
 use Rattle.tql_store.specs.Represents.{Judged}
 use Rattle.tql_store.specs.declared.store.Delta.{Delta}
 use Rattle.tql_value.specs.Refusals.{refusal_of}
-use Rattle.tql_value.specs.Views.{rows_of}
 use Rattle.tql_value.specs.declared.refusal.Refusal.{Refusal}
 use Rattle.tql_value.specs.declared.refusal.Refusal.TheVariants as r
 use Rattle.tql_engine_state.specs.Adding.{Added, Adds}
@@ -52,7 +51,7 @@ not_answered s p x r.ValueOutOfRange f = inl (refl, f)
 not_answered s p x _ f = absurd f
 
 by_result : (s : State) (p : Table) (x : QueryInsertion) (result : Result Delta Refusal) → Added s p x result
-    → IfOk result (λ delta. All (IsRowOf p.definition) (rows_of delta.added.items)) → Adds s p x result
+    → IfOk result (λ delta. All (IsRowOf p.definition) delta.added.items) → Adds s p x result
 by_result s p x (Ok delta) a fits = (a, fits)
 by_result s p x (Err r.OutOfMemory) a fits = tt
 by_result s p x (Err _) a fits = inr a
@@ -62,7 +61,7 @@ pub adds_of : (s : State) (p : Table) (x : QueryInsertion) (rows : List Row) (re
     → IsBag (answer (bag_of s) (bound_query_of x.query)) rows
     → Alters p.id [] (λ m. (added_rows p.definition x.columns.items (Some rows) m).rows)
     (added_rows p.definition x.columns.items (Some rows)) result
-    → IfOk result (λ delta. All (IsRowOf p.definition) (rows_of delta.added.items)) → Adds s p x result
+    → IfOk result (λ delta. All (IsRowOf p.definition) delta.added.items) → Adds s p x result
 adds_of s p x rows result b alters fits =
     by_result s p x result (record { bag = b.bag; answered = b.is; rows = rows; same = b.same; alters = alters }) fits
 
@@ -127,7 +126,7 @@ module _ (no_order : InsertsKeepNoOrder) (h : EngineModel) (s : State) (p : Tabl
         (added_rows p.definition columns (Some got)) delta
         → Changes h x.table delta variants.Inserted (query_insertion_of x) s
     query_makes delta gives =
-        let added = rows_of delta.added.items in
+        let added = delta.added.items in
         let made : (outcome_of (Some got)).rows ≡ rows ++ begun_at moment added =
         ap (λ xs. rows ++ xs) (rows_begun p.definition moment columns (Some got) added (gives.added moment)) in
         record {

@@ -10,7 +10,6 @@ use Rattle.tql_catalog.specs.Rows.{IsRowOf}
 use Rattle.tql_catalog.specs.declared.catalog.Table.{Table}
 use Rattle.tql_dml.specs.Alters.{Alters, added_rows}
 use Rattle.tql_store.specs.declared.store.Delta.{Delta}
-use Rattle.tql_value.specs.Views.{rows_of}
 use Rattle.tql_value.specs.declared.refusal.Refusal.{Refusal}
 use Rattle.tql_value.specs.declared.refusal.Refusal.TheVariants.{OutOfMemory, ValueOutOfRange}
 
@@ -25,6 +24,6 @@ pub record Added (s : State) (p : Table) (x : QueryInsertion) (result : Result D
 
 -- the change; a refused allocation; or the query is out of range, or a new row has a fault
 abbrev pub Adds : State → Table → QueryInsertion → Result Delta Refusal → Type 0
-Adds s p x (Ok delta) = Added s p x (Ok delta) × All (IsRowOf p.definition) (rows_of delta.added.items)
+Adds s p x (Ok delta) = Added s p x (Ok delta) × All (IsRowOf p.definition) delta.added.items
 Adds s p x (Err OutOfMemory) = ⊤
 Adds s p x (Err e) = ((e ≡ ValueOutOfRange) × (answer (bag_of s) (bound_query_of x.query) ≡ None)) ⊎ Added s p x (Err e)

@@ -16,7 +16,6 @@ use Rattle.tql_store.specs.Changes.{rows_after}
 use Rattle.tql_store.specs.Represents.{Judged}
 use Rattle.tql_store.specs.StoreModel.{AreRemovable}
 use Rattle.tql_store.specs.declared.store.Delta.{Delta}
-use Rattle.tql_value.specs.Views.{rows_of}
 use Rattle.tql_engine_state.specs.Stands.{EngineModel, StandsFor}
 
 -- the working copy that a change applies to
@@ -31,7 +30,7 @@ pub record Changes (h : EngineModel) (t : ℕ) (delta : Delta) (verb : Verb) (c 
   pub gone : Stamped → Bool
   pub judged : Judged h.store delta.table gone delta.removed.items
   pub rows : SameBag made.rows
-      (rows_after (working_now s).moment gone (rows_of delta.added.items) (rows_in (working_now s).copy t))
+      (rows_after (working_now s).moment gone delta.added.items (rows_in (working_now s).copy t))
   pub sound : made.faults ≡ []
   pub within : change_faults s.horizon c ≡ []
   pub count : made.count ≡ delta.count
@@ -41,7 +40,7 @@ pub record Changes (h : EngineModel) (t : ℕ) (delta : Delta) (verb : Verb) (c 
 pub record FitsTable (h : EngineModel) (t : ℕ) (delta : Delta) : Type 0 where
   pub table : (p : Table) → slice_get h.tables t ≡ Some p → delta.table ≡ p.id
   pub removable : AreRemovable h.store delta.table delta.removed.items
-  pub fit : (p : Table) → slice_get h.tables t ≡ Some p → All (IsRowOf p.definition) (rows_of delta.added.items)
+  pub fit : (p : Table) → slice_get h.tables t ≡ Some p → All (IsRowOf p.definition) delta.added.items
 
 -- it fits, and it is a change of the reference model in each state that the engine represents
 pub record IsMade (h : EngineModel) (t : ℕ) (delta : Delta) (verb : Verb) : Type 0 where

@@ -8,7 +8,6 @@ use Rattle.tql_catalog.specs.Rows.{IsRowOf}
 use Rattle.tql_catalog.specs.declared.catalog.Table.{Table}
 use Rattle.tql_dml.specs.Alters.{Alters, gone, fates, coming, conds_in, portion_in, modified, IsVersionOf, AreTyped}
 use Rattle.tql_plan_access.specs.Access.{IsShown, ServesChange}
-use Rattle.tql_value.specs.Views.{rows_of}
 use Rattle.tql_store.specs.StoreModel.{StoreModel, live}
 use Rattle.tql_versions.specs.Changes.{is_current}
 use Rattle.tql_store.specs.Views.{IsFound}
@@ -36,7 +35,7 @@ pub record Made (h : StoreModel) (p : Table) (x : Modification) (result : Result
   pub alters : Alters p.id (gone p.definition x seen) (λ m. coming (fates p.definition seen x m))
       (modified p.definition seen x) result
   pub fits : All (IsVersionOf p.definition) seen → AreTyped p.definition seen x
-      → IfOk result (λ delta. All (IsRowOf p.definition) (rows_of delta.added.items))
+      → IfOk result (λ delta. All (IsRowOf p.definition) delta.added.items)
 
 -- the result; an allocation may be refused
 abbrev pub Makes : StoreModel → Table → Modification → Result Delta Refusal → Type 0

@@ -1,10 +1,12 @@
 //! A change to the rows of one table, as the key and reference tests read it.
+ghost use Rattle.std.specs.Cow.{cow_slice_items};
 ghost use Rattle.std.specs.Prelude.{◌≡◌, ℕ, IfOk};
 ghost use Rattle.tql_spec.specs.Bag.{SameBag};
 ghost use Rattle.tql_store.specs.StoreModel.{is_among};
 ghost use Rattle.tql_keys.specs.Rising.{AreRising};
 
 use std::alloc::AllocError;
+use std::borrow::CowSlice;
 use tql_memory::Memory;
 use tql_row::row::Row;
 
@@ -41,13 +43,16 @@ impl Change<'_> {
     }
 }
 
-/// Returns the ids in rising order.
-pub fn rising(memory: Memory, ids: &[usize]) -> Result<Vec<usize, Memory>, AllocError>
-    ensures rising { IfOk result (λ rising. AreRising rising.items) }
-    ensures same { IfOk result (λ rising. (id : ℕ) → is_among id rising.items ≡ is_among id ids.now) }
-    ensures bag { IfOk result (λ rising. SameBag ids.now rising.items) }
+/// Returns the ids in rising order. If they rise already, as those of a scan do, they are not copied.
+pub fn rising(memory: Memory, ids: &[usize]) -> Result<CowSlice<'_, usize, Memory>, AllocError>
+    ensures rising { IfOk result (λ rising. AreRising (cow_slice_items rising)) }
+    ensures same { IfOk result (λ rising. (id : ℕ) → is_among id (cow_slice_items rising) ≡ is_among id ids.now) }
+    ensures bag { IfOk result (λ rising. SameBag ids.now (cow_slice_items rising)) }
 {
+    if ids.is_sorted() {
+        return Ok(CowSlice::Borrowed(ids));
+    }
     let mut rising = Vec::from_slice(memory, ids)?;
     rising.sort_unstable();
-    Ok(rising)
+    Ok(CowSlice::Owned(rising))
 }

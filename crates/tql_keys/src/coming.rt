@@ -71,8 +71,7 @@ pub(crate) fn with_tuple<'r, 'a>(
     rows: &'r [StoredRow<'a>],
 ) -> &'r [StoredRow<'a>]
     requires { TuplesRise columns.now rows.now }
-    ensures { (test : Row → Bool)
-        → any_with columns.now (map datum_of_view tuple.now) test (map shown_by result.now)
+    ensures { (test : Row → Bool) → any_with columns.now (map datum_of_view tuple.now) test (map shown_by result.now)
         ≡ any_with columns.now (map datum_of_view tuple.now) test (map shown_by rows.now) }
 {
     let start = rows.partition_point(|row| compare_with(columns, row, tuple).is_lt());

@@ -60,8 +60,7 @@ fn holds_after<I: IntervalIndex>(
 ) -> Result<bool, AllocError>
     requires there { IsTrue (has_table store.now table.now.id) }
     requires columns { IsTrue (are_assignable table.now.definition (key_of key.now).columns) }
-    ensures { IfOk result (λ holds. (rows : List Stamped) (gone : Stamped → Bool)
-        → AreRowsOf store.now table.now rows
+    ensures { IfOk result (λ holds. (rows : List Stamped) (gone : Stamped → Bool) → AreRowsOf store.now table.now rows
         → IsJudged (row_named store.now table.now.id) gone change.now.removed.now
         → key_holds table.now.definition (shown_rows table.now.definition rows) (key_of key.now) ≡ true
         → holds ≡ key_holds table.now.definition
@@ -110,8 +109,7 @@ pub fn key_after<I: IntervalIndex>(
 ) -> Result<bool, AllocError>
     requires there { IsTrue (has_table store.now table.now.id) }
     requires columns { IsTrue (are_assignable table.now.definition (key_of key.now).columns) }
-    ensures { IfOk result (λ holds. (rows : List Stamped) (gone : Stamped → Bool)
-        → AreRowsOf store.now table.now rows
+    ensures { IfOk result (λ holds. (rows : List Stamped) (gone : Stamped → Bool) → AreRowsOf store.now table.now rows
         → IsJudged (row_named store.now table.now.id) gone change.now.removed.now
         → key_holds table.now.definition (shown_rows table.now.definition rows) (key_of key.now) ≡ true
         → holds ≡ key_holds table.now.definition
@@ -132,8 +130,7 @@ pub(crate) fn keys_after<I: IntervalIndex>(
     change: &Change<'_>,
 ) -> Result<bool, AllocError>
     requires { IsTrue (has_table store.now table.now.id) }
-    ensures { IfOk result (λ holds. (rows : List Stamped) (gone : Stamped → Bool)
-        → AreRowsOf store.now table.now rows
+    ensures { IfOk result (λ holds. (rows : List Stamped) (gone : Stamped → Bool) → AreRowsOf store.now table.now rows
         → IsJudged (row_named store.now table.now.id) gone change.now.removed.now
         → keys_hold_of table.now.definition (shown_rows table.now.definition rows) ≡ true
         → holds ≡ keys_hold_of table.now.definition

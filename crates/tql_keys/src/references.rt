@@ -155,8 +155,7 @@ fn add_coming(
 ) -> Result<(), AllocError>
     ensures { OnOk result ((x : ℤ) → any_holds periods.new.items x
         ≡ (any_holds periods.old.items x
-        || any_with columns.now (map datum_of_view tuple.now) (row_holds definition.now x)
-        (map shown_by coming.now))) }
+        || any_with columns.now (map datum_of_view tuple.now) (row_holds definition.now x) (map shown_by coming.now))) }
 {
     for row in coming {
         add_new(definition, columns, tuple, row, periods)?;
@@ -186,8 +185,7 @@ fn periods_after(
     ensures rising { IfOk result (λ periods. StartsRise periods.items) }
     ensures holds { IfOk result (λ periods. (x : ℤ) → any_holds periods.items x
         ≡ (any_left definition.now change.now.removed.now (row_holds definition.now x) found.now
-        || any_with columns.now (map datum_of_view tuple.now) (row_holds definition.now x)
-        (map shown_by coming.now))) }
+        || any_with columns.now (map datum_of_view tuple.now) (row_holds definition.now x) (map shown_by coming.now))) }
 {
     let mut periods = Vec::new(memory);
     add_left(definition, found, change, &mut periods)?;
@@ -349,8 +347,7 @@ fn is_child_of(
     of: &StoredRow<'_>,
     row: &StoredRow<'_>,
 ) -> bool
-    ensures { result ≡ child_of child.now parent.now (reference_of reference.now) (shown_by of.now)
-        (shown_by row.now) }
+    ensures { result ≡ child_of child.now parent.now (reference_of reference.now) (shown_by of.now) (shown_by row.now) }
 {
     agrees(&reference.columns, row, &reference.parent_columns, of)
         && touches(reference.by_period, child, row, parent, of)
@@ -435,8 +432,7 @@ fn is_spared<I: IntervalIndex>(
         → AreRowsOf store.now children.now.table.now others
         → spared ≡ is_spared_but children.now.table.now.definition parents.now.table.now.definition
         (reference_of reference.now)
-        (shown_rows parents.now.table.now.definition
-        (rows_after change.now.moment gone change.now.added.now rows))
+        (shown_rows parents.now.table.now.definition (rows_after change.now.moment gone change.now.added.now rows))
         (shown_rows children.now.table.now.definition others) (map shown_by behind.now) (shown_by row.now)) }
 {
     let child = &children.table.definition;
@@ -483,8 +479,7 @@ pub fn is_spared_at<I: IntervalIndex>(
         → AreRowsOf store.now children.now.table.now others
         → spared ≡ is_first_spared children.now.table.now.definition parents.now.table.now.definition
         (reference_of reference.now)
-        (shown_rows parents.now.table.now.definition
-        (rows_after change.now.moment gone change.now.added.now rows))
+        (shown_rows parents.now.table.now.definition (rows_after change.now.moment gone change.now.added.now rows))
         (shown_rows children.now.table.now.definition others) (map shown_by (drop place going.now))) }
 {
     let (_, left) = going.split_at(place);
@@ -521,8 +516,7 @@ fn are_spared<I: IntervalIndex>(
         → AreRowsOf store.now children.now.table.now others
         → spared ≡ are_spared_in children.now.table.now.definition parents.now.table.now.definition
         (reference_of reference.now)
-        (shown_rows parents.now.table.now.definition
-        (rows_after change.now.moment gone change.now.added.now rows))
+        (shown_rows parents.now.table.now.definition (rows_after change.now.moment gone change.now.added.now rows))
         (shown_rows children.now.table.now.definition others) (map shown_by going.now)) }
 {
     for place in 0..going.len() {

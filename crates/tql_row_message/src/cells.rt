@@ -4,9 +4,10 @@ use tql_bind_message::names::push_names;
 use tql_catalog::table_def::TableDef;
 use tql_detail::detail::Detail;
 use tql_detail::shown::{Words, push_shown};
+use tql_expr::row::Row;
 use tql_result::cell::{is_printable, write_cell};
 use tql_result::vec_sink::VecSink;
-use tql_value::value::{Value, View};
+use tql_value::value::View;
 
 /// The row of a change that a detail is about.
 #[derive(Clone, Copy)]
@@ -31,7 +32,7 @@ impl Subject {
 #[derive(Clone, Copy)]
 pub struct Cells<'a> {
     pub definition: &'a TableDef,
-    pub values: &'a [Value],
+    pub row: &'a Row,
 }
 
 /// Adds columns of a table, by their numbers, to the columns of a detail.
@@ -75,10 +76,7 @@ impl<'a> Cells<'a> {
     pub fn value(self, number: usize) -> View<'a> {
         let stored = self.definition.assignable();
         match stored.iter().position(|column| *column == number) {
-            Some(place) => match self.values.get(place) {
-                Some(value) => value.view(),
-                None => View::Null,
-            },
+            Some(place) => self.row.column(place),
             None => View::Null,
         }
     }

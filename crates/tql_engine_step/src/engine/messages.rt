@@ -17,6 +17,7 @@ use tql_dml::failures::{
     first_failed_value, first_failure, inserted_rows, modified_rows, tuple_rows,
 };
 use tql_exec_sort::sorting::arrange;
+use tql_expr::row::Row;
 use tql_index::index::IntervalIndex;
 use tql_key_failures::failures::{RowRef, failed_key, failed_reference};
 use tql_memory::Memory;
@@ -34,7 +35,6 @@ use tql_store::store::Delta;
 use tql_syntax_tree::statement::Statement;
 use tql_value::calendar::FIRST_MOMENT;
 use tql_value::refusal::Refusal;
-use tql_value::value::Value;
 use tql_value::when::When;
 
 /// Returns how a detail names a new row: by its number in an INSERT.
@@ -61,14 +61,14 @@ impl<I: IntervalIndex> Engine<I> {
     fn fault_of(
         &self,
         table: &Table,
-        rows: &[Vec<Value, Memory>],
+        rows: &[Row],
         is_insert: bool,
         refusal: Refusal,
     ) -> Option<Detail> {
         let definition = &table.definition;
         let failure = first_failure(definition, rows, refusal)?;
-        let values = rows.get(failure.row)?.as_slice();
-        let cells = Cells { definition, values };
+        let row = rows.get(failure.row)?;
+        let cells = Cells { definition, row };
         let subject = subject(is_insert, failure.row);
         fault_detail(self.memory, subject, cells, failure.failed)
     }
@@ -85,17 +85,18 @@ impl<I: IntervalIndex> Engine<I> {
     {
         let definition = &table.definition;
         match other {
-            RowRef::Added(row) => {
-                let values = delta.added.get(row)?.as_slice();
+            RowRef::Added(number) => {
+                let row = delta.added.get(number)?;
                 Some(Rival {
-                    cells: Cells { definition, values },
-                    subject: Some(subject(is_insert, row)),
+                    cells: Cells { definition, row },
+                    subject: Some(subject(is_insert, number)),
                 })
             }
             RowRef::Stored(id) => {
-                let values = self.store.row(table.id, id)?.row;
+                let kept = self.store.row(table.id, id)?.kept;
+                let row = &kept.row;
                 Some(Rival {
-                    cells: Cells { definition, values },
+                    cells: Cells { definition, row },
                     subject: None,
                 })
             }
@@ -110,8 +111,8 @@ impl<I: IntervalIndex> Engine<I> {
         let found = failed_key(self.memory, &self.store, table, delta, self.next).ok()?;
         let failure = found?;
         let definition = &table.definition;
-        let values = delta.added.get(failure.row)?.as_slice();
-        let cells = Cells { definition, values };
+        let row = delta.added.get(failure.row)?;
+        let cells = Cells { definition, row };
         let rival = self.rival(table, delta, is_insert, failure.other)?;
         let subject = subject(is_insert, failure.row);
         key_detail(self.memory, subject, cells, failure.key, rival)
@@ -134,15 +135,16 @@ impl<I: IntervalIndex> Engine<I> {
         let child = self.table_at(failure.child);
         let definition = &child.definition;
         match failure.row {
-            RowRef::Added(row) => {
-                let values = delta.added.get(row)?.as_slice();
-                let cells = Cells { definition, values };
-                let subject = subject(is_insert, row);
+            RowRef::Added(number) => {
+                let row = delta.added.get(number)?;
+                let cells = Cells { definition, row };
+                let subject = subject(is_insert, number);
                 missing_detail(self.memory, subject, cells, failure.reference)
             }
             RowRef::Stored(id) => {
-                let values = self.store.row(child.id, id)?.row;
-                let cells = Cells { definition, values };
+                let kept = self.store.row(child.id, id)?.kept;
+                let row = &kept.row;
+                let cells = Cells { definition, row };
                 let parent = &self.table_at(place).definition;
                 referenced_detail(self.memory, cells, failure.reference, parent)
             }
@@ -171,7 +173,7 @@ impl<I: IntervalIndex> Engine<I> {
     fn added_fault(
         &self,
         place: usize,
-        added: Vec<Vec<Value, Memory>, Memory>,
+        added: Vec<Row, Memory>,
         refusal: Refusal,
     ) -> Option<Detail>
         requires within { place < length self.now.tables }
@@ -231,10 +233,7 @@ impl<I: IntervalIndex> Engine<I> {
     }
 
     /// Returns the rows that an UPDATE or DELETE adds.
-    fn touched_rows(
-        &self,
-        modification: &Modification,
-    ) -> Result<Vec<Vec<Value, Memory>, Memory>, Refusal>
+    fn touched_rows(&self, modification: &Modification) -> Result<Vec<Row, Memory>, Refusal>
         requires within { modification.now.table < length self.now.tables }
     {
         let table = self.table_at(modification.table);

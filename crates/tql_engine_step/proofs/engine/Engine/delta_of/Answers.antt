@@ -1,6 +1,5 @@
 use Rattle.std.proofs.Common.{◌≡◌, ℕ, sym, subst, ◌∙◌, None, Some, List, map, length, All}
 use Rattle.std.specs.Prelude.{slice_get, IsTrue, Option}
-use Rattle.std.proofs.lemmas.List.{length-map}
 use Rattle.std.proofs.lemmas.List.Elements.{All-weaker}
 use Rattle.tql_spec.specs.Machine.{State}
 use Rattle.tql_bound.specs.declared.change.Modification.{Modification}
@@ -15,7 +14,6 @@ use Rattle.tql_store.specs.StoreModel.{has_table}
 use Rattle.tql_store.specs.Views.{IsFound}
 use Rattle.tql_store_index.specs.Basis.{Sought, is_looked_at}
 use Rattle.tql_versions.specs.declared.version.Version.{Version}
-use Rattle.tql_value.specs.Views.{datum_of_value}
 use Rattle.tql_value.specs.declared.when.When.TheVariants.{Now}
 use Rattle.tql_engine_state.specs.Modifying.{Makes, Made}
 use Rattle.tql_engine_state.specs.Stands.{EngineModel, StandsFor}
@@ -36,10 +34,10 @@ in_store inside whole s t p e stands at =
 -- versions that were found have as many cells as the table stores
 widths : (h : EngineModel) (s : State) (t : ℕ) (p : Table) (o : Option Sought) (seen : List Version) → StandsFor h s
     → slice_get h.tables t ≡ Some p → IsFound h.store p.id Now (is_looked_at o) seen
-    → All (λ (v : Version). length v.row.now ≡ stored_width p.definition) seen
+    → All (λ (v : Version). length v.kept.now.row ≡ stored_width p.definition) seen
 widths h s t p o seen stands there found =
-    All-weaker (IsVersionOf p.definition) (λ (v : Version). length v.row.now ≡ stored_width p.definition)
-    (λ v k. sym (length-map v.row.now datum_of_value) ∙ k.cells.width) seen
+    All-weaker (IsVersionOf p.definition) (λ (v : Version). length v.kept.now.row ≡ stored_width p.definition)
+    (λ v k. k.cells.width) seen
     (read_fit h s t p o seen stands there found.copies)
 
 pub current-current-requires : goal.current-current-requires
@@ -71,7 +69,7 @@ modify-requires g c =
     c.table_at-table.ensures in
     let found = subst (λ (w : Option Sought). IsFound c.self.inside.store p.id Now (is_looked_at w)
     c.in_ok-seen-in-Some.seen.items) c.in-Some.ensures c.in_ok-seen-in-Some.ensures in
-    subst (λ (vs : List Version). All (λ (v : Version). length v.row.now ≡ stored_width p.definition) vs)
+    subst (λ (vs : List Version). All (λ (v : Version). length v.kept.now.row ≡ stored_width p.definition) vs)
     (sym c.deref-in-Some.ensures.value)
     (widths _ c.self.invariant.state x.table p o c.in_ok-seen-in-Some.seen.items c.self.invariant.stands there found)
 

@@ -4,7 +4,6 @@ use Rattle.tql_bound.specs.Changes.{insertion_of}
 use Rattle.tql_catalog.specs.Rows.{IsRowOf}
 use Rattle.tql_catalog.specs.declared.catalog.Table.{Table}
 use Rattle.tql_store.proofs.Judging.{none-removable}
-use Rattle.tql_value.specs.Views.{rows_of}
 use Rattle.tql_engine_state.proofs.Doing.{insert_makes}
 use Rattle.tql_engine_state.proofs.Inserting.{insert_errs}
 use Rattle.tql_engine_state.proofs.Standing.{place_law, some_is}
@@ -26,7 +25,7 @@ make-requires-clause-made g c =
       fits = λ s st typed. record {
         table = λ q there. gives.table ∙ ap (λ (x : Table). x.id) (some_is p q (sym c.table_at.ensures ∙ there));
         removable = none-removable c.args.self.now.store c.in-Ok.delta.table c.in-Ok.delta.removed.items gives.removed;
-        fit = λ q there. subst (λ (x : Table). All (IsRowOf x.definition) (rows_of c.in-Ok.delta.added.items))
+        fit = λ q there. subst (λ (x : Table). All (IsRowOf x.definition) c.in-Ok.delta.added.items)
             (some_is p q (sym c.table_at.ensures ∙ there)) c.in-Ok.ensures.fits;
       };
       makes = λ s st. insert_makes c.args.self.now s p c.args.insertion.now c.in-Ok.delta st c.table_at.ensures gives;

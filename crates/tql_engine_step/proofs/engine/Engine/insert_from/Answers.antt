@@ -5,7 +5,6 @@ use Rattle.tql_bound.specs.declared.change.QueryInsertion.{QueryInsertion}
 use Rattle.tql_catalog.specs.Rows.{IsRowOf}
 use Rattle.tql_catalog.specs.declared.catalog.Table.{Table}
 use Rattle.tql_store.proofs.Judging.{none-removable}
-use Rattle.tql_value.specs.Views.{rows_of}
 use Rattle.tql_engine_state.specs.Adding.{Adds}
 use Rattle.tql_bound.specs.Queries.{bound_query_of}
 use Rattle.tql_engine_state.proofs.Doing.{within_law}
@@ -30,7 +29,7 @@ make-requires-clause-made g c =
             table = λ q there. adds.0.alters.table ∙ ap (λ (y : Table). y.id) (some_is t.0 q (sym t.1 ∙ there));
             removable = none-removable c.args.self.now.store c.in-Ok.delta.table c.in-Ok.delta.removed.items
                 adds.0.alters.removed;
-            fit = λ q there. subst (λ (y : Table). All (IsRowOf y.definition) (rows_of c.in-Ok.delta.added.items))
+            fit = λ q there. subst (λ (y : Table). All (IsRowOf y.definition) c.in-Ok.delta.added.items)
                 (some_is t.0 q (sym t.1 ∙ there)) adds.1;
           };
       makes = λ s st.

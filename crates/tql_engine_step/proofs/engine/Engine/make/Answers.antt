@@ -11,7 +11,6 @@ use Rattle.tql_catalog.specs.Rows.{IsRowOf}
 use Rattle.tql_catalog.specs.declared.catalog.Table.{Table}
 use Rattle.tql_store.specs.Changes.{rows_after}
 use Rattle.tql_store.specs.StoreModel.{has_table}
-use Rattle.tql_value.specs.Views.{rows_of}
 use Rattle.tql_engine_state.specs.Committing.{ChangesRows, KeepsRows}
 use Rattle.tql_engine_state.specs.Effects.{Refuses}
 use Rattle.tql_engine_state.specs.Making.{Changes, IsMade}
@@ -46,7 +45,7 @@ returns-in-Err g c = λ s change st k.
     let t = table_there h.tables c.args.place within in
     let below = subst (λ (x : EngineModel). IsNone x.store.working → x.next <ℤ high) (sym c.self.view_is)
     c.requires.below in
-    let added = rows_of c.args.delta.added.items in
+    let added = c.args.delta.added.items in
     let rows : List Stamped = rows_after h.next here.gone added (working_rows own c.args.place) in
     let told = c.in-Err.ensures.tests (working_now own).copy rows here.gone (copy_is h own ot) here.judged
     (held_before h own ot c.self.invariant.holds)
@@ -87,7 +86,7 @@ invariant_of-self g c =
     let p : Table = t.0 in
     let below = subst (λ (x : EngineModel). IsNone x.store.working → x.next <ℤ high) (sym c.self.view_is)
     c.requires.below in
-    let added = rows_of c.args.delta.added.items in
+    let added = c.args.delta.added.items in
     let removed : List ℕ = c.args.delta.removed.items in
     let rows : List Stamped = rows_after h.next here.gone added (working_rows own c.args.place) in
     let told = c.in_default.ensures.tests (working_now own).copy rows here.gone (copy_is h own ot) here.judged
@@ -141,7 +140,7 @@ returns-in-Ok g c = λ s change st k.
     let p : Table = t.0 in
     let below = subst (λ (x : EngineModel). IsNone x.store.working → x.next <ℤ high) (sym c.self.view_is)
     c.requires.below in
-    let added = rows_of c.args.delta.added.items in
+    let added = c.args.delta.added.items in
     let removed : List ℕ = c.args.delta.removed.items in
     let rows : List Stamped = rows_after h.next here.gone added (working_rows own c.args.place) in
     let told = c.in_default.ensures.tests (working_now own).copy rows here.gone (copy_is h own ot) here.judged

@@ -8,7 +8,6 @@ use Rattle.tql_dml.proofs.Modified.{touches}
 use Rattle.tql_dml.specs.Alters.{conds_in, portion_in}
 use Rattle.tql_store.specs.Represents.{Judged}
 use Rattle.tql_store.specs.StoreModel.{AreRemovable}
-use Rattle.tql_value.specs.Views.{rows_of}
 use Rattle.tql_engine_state.specs.Modifying.{Made}
 use Rattle.tql_engine_state.proofs.Looking.{read_fit}
 use Rattle.tql_engine_state.proofs.Modifying.{modify_errs, modify_makes, table_there, gone_removable, gone_judged}
@@ -36,7 +35,7 @@ make-requires-clause-made g c =
         table = λ q there. made.alters.table ∙ ap (λ (y : Table). y.id) (some_is p q (sym t.1 ∙ there));
         removable = subst (λ i. AreRemovable h.store i c.in-Ok.delta.removed.items) (sym made.alters.table)
             (gone_removable h.store p x c.in-Ok.delta made);
-        fit = λ q there. subst (λ (y : Table). All (IsRowOf y.definition) (rows_of c.in-Ok.delta.added.items))
+        fit = λ q there. subst (λ (y : Table). All (IsRowOf y.definition) c.in-Ok.delta.added.items)
             (some_is p q (sym t.1 ∙ there))
             (made.fits (read_fit h s x.table p made.sought made.seen st t.1 made.found.copies)
             (read_typed h s p x made.sought made.seen st typed c.requires.typed t.1 made.found.copies));
