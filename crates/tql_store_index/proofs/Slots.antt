@@ -1,8 +1,8 @@
 -- The periods of row slots, kept as groups or as spans.
-use Rattle.std.proofs.Common.{◌≡◌, ◌<◌, ℕ, Bool, true, false, if◌then◌else◌, List, map, get_or, set, length, sym, ap}
-use Rattle.std.proofs.Common.{subst, ◌∙◌}
+use Rattle.std.proofs.Common.{◌≡◌, ℕ, Bool, true, false, if◌then◌else◌, List, map, get_or, set, ap}
+use Rattle.std.proofs.Common.{◌∙◌}
 use Rattle.std.specs.Prelude.{ℤ, Option, None}
-use Rattle.std.proofs.lemmas.List.{length-map, map-set}
+use Rattle.std.proofs.lemmas.List.{map-set}
 use Rattle.tql_spec.specs.Period.{Period}
 use Rattle.tql_store_index.specs.declared.slot_periods.SlotSpan as code
 use Rattle.tql_store_index.specs.Standing.{points_of_group, points_of_slot}
