@@ -8,7 +8,8 @@ use Rattle.tql_versions.specs.Marks.{below, from}
 -- whether the next position is below the number decides which of the two lists it is in
 pub below_more : (n : ℕ) (is : List ℕ) (k d : ℕ) → k < length is
     → length (below n (drop k is))
-    ≡ (if nat_lt (get_or is k d) n then suc (length (below n (drop (k + 1) is))) else length (below n (drop (k + 1) is)))
+    ≡ (if nat_lt (get_or is k d) n then suc (length (below n (drop (k + 1) is)))
+    else length (below n (drop (k + 1) is)))
 below_more n is k d l =
     at_drop_more (λ js. length (below n js)) is k d l ∙ one (get_or is k d) (drop (k + 1) is)
   where
