@@ -8,25 +8,20 @@ use std::process::Abort;
 use std::test::Fail;
 use tql_index::tree_index::TreeIndex;
 use tql_memory::{Memory, memory};
+use tql_row::row::Row;
 use tql_store::store::{Delta, Store};
 use tql_value::refusal::Refusal;
 use tql_value::table::TableId;
-use tql_value::value::{Value, View};
+use tql_value::value::View;
 use tql_value::when::When;
 use tql_versions::version::{HIGH, Version};
 
 /// Returns a row for each number below `count`: the number, the day of the round and the day of the number.
-fn rows_of(
-    memory: Memory,
-    count: i64,
-    round: i64,
-) -> Result<Vec<Vec<Value, Memory>, Memory>, Refusal> {
+fn rows_of(memory: Memory, count: i64, round: i64) -> Result<Vec<Row, Memory>, Refusal> {
     let mut rows = Vec::new(memory);
     for number in 0..count {
-        let mut row = Vec::new(memory);
-        row.push(Value::Int(number))?;
-        row.push(Value::Day(round))?;
-        row.push(Value::Day(number))?;
+        let values = [View::Int(number), View::Day(round), View::Day(number)];
+        let row = Row::of(memory, &values)?;
         rows.push(row)?;
     }
     Ok(rows)
@@ -55,12 +50,12 @@ fn renewal(
 
 /// Whether a version has the number, and the day of the round, if there is one.
 fn is_of(version: &Version<'_>, number: i64, round: Option<i64>) -> bool {
-    let is_numbered = match version.row.first() {
-        Some(Value::Int(own)) => *own == number,
+    let is_numbered = match version.kept.row.column(0) {
+        View::Int(own) => own == number,
         _ => false,
     };
-    let is_of_round = match version.row.get(1) {
-        Some(Value::Day(day)) => round.is_none_or(|round| *day == round),
+    let is_of_round = match version.kept.row.column(1) {
+        View::Day(day) => round.is_none_or(|round| day == round),
         _ => false,
     };
     is_numbered && is_of_round
@@ -81,7 +76,9 @@ fn are_those(
         && those.iter().all(|one| {
             is_of(one, number, round)
                 && found.iter().any(|version| {
-                    version.id == one.id && version.start == one.start && version.end == one.end
+                    version.id == one.id
+                        && version.kept.start == one.kept.start
+                        && version.end == one.end
                 })
         })
 }

@@ -9,17 +9,18 @@ use std::slice;
 use std::test::Fail;
 use tql_index::tree_index::TreeIndex;
 use tql_memory::{Memory, memory};
+use tql_row::row::Row;
 use tql_store::store::{Delta, Store};
 use tql_value::calendar::FIRST_MOMENT;
 use tql_value::refusal::Refusal;
 use tql_value::table::TableId;
-use tql_value::value::{Value, View};
+use tql_value::value::View;
 use tql_value::when::When;
 use tql_versions::version::HIGH;
 
 /// Returns a row of each number.
-fn rows_of(memory: Memory, numbers: &[i64]) -> Result<Vec<Vec<Value, Memory>, Memory>, Refusal> {
-    let mut rows: Vec<Vec<Value, Memory>, Memory> = Vec::new(memory);
+fn rows_of(memory: Memory, numbers: &[i64]) -> Result<Vec<Row, Memory>, Refusal> {
+    let mut rows: Vec<Row, Memory> = Vec::new(memory);
     for number in numbers {
         let row = row_of(memory, *number)?;
         rows.push(row)?;

@@ -11,10 +11,11 @@ use tql_index::list_index::ListIndex;
 use tql_index::tree_index::TreeIndex;
 use tql_memory::{Memory, memory};
 use tql_period::period::Period;
+use tql_row::row::Row;
 use tql_store::store::{Delta, Store};
 use tql_value::refusal::Refusal;
 use tql_value::table::TableId;
-use tql_value::value::{Value, View};
+use tql_value::value::View;
 use tql_value::when::When;
 use tql_versions::version::{HIGH, Version};
 
@@ -23,11 +24,11 @@ pub type Shown = (i64, i64, i64);
 
 /// Returns the parts of a version that a test compares.
 pub fn shown(version: &Version<'_>) -> Shown {
-    let number = match version.row.first() {
-        Some(Value::Int(number)) => *number,
+    let number = match version.kept.row.column(0) {
+        View::Int(number) => number,
         _ => -1,
     };
-    (number, version.start, version.end)
+    (number, version.kept.start, version.end)
 }
 
 /// Whether a reading finds exactly the wanted version, or no version if none is wanted. If memory is not ample, the
@@ -44,12 +45,12 @@ fn finds(
 }
 
 /// Returns a row of the number: the number, the day of that number and the tenth day after it.
-pub fn row_of(memory: Memory, number: i64) -> Result<Vec<Value, Memory>, Refusal> {
-    let mut row = Vec::new(memory);
-    row.push(Value::Int(number))?;
-    row.push(Value::Day(number))?;
-    row.push(Value::Day(number.saturating_add(10)))?;
-    Ok(row)
+pub fn row_of(memory: Memory, number: i64) -> Result<Row, AllocError> {
+    let to = number.saturating_add(10);
+    Row::of(
+        memory,
+        &[View::Int(number), View::Day(number), View::Day(to)],
+    )
 }
 
 /// Returns a change that adds a row of the number.
