@@ -34,13 +34,12 @@ pub at_read : (ks : List Kept) (i : ℕ) (v : Kept) → i < length ks → v ≡ 
 at_read ks i v l read = get_or-map version_of ks i v nothing l ∙ ap version_of (sym read)
 
 -- the row that the code reads at the next position, with its period attached
-pub place_read : (ks : List Kept) (places : List ℕ) (j : ℕ) (v : Kept) (until : Option ℤ) (now : Row)
-    (x : Period) (none : Filed) → j < length places → get_or places j 0 < length ks
-    → v ≡ get_or ks (get_or places j 0) v → now ≡ v.row → x ≡ (past_of (ending until (version_of v))).during
-    → filed now x ≡ get_or (pasts_at until places (versions_of ks)) j none
-place_read ks places j v until now x none l within read is e =
-    ap (λ (r : Row). filed r x) is ∙ ap (filed (version_of v).row.cells) e
-    ∙ cells until (version_of v)
+pub place_read : (ks : List Kept) (places : List ℕ) (j : ℕ) (v : Kept) (until : Option ℤ) (x : Period) (none : Filed)
+    → j < length places → get_or places j 0 < length ks → v ≡ get_or ks (get_or places j 0) v
+    → x ≡ (past_of (ending until (version_of v))).during
+    → filed v.row x ≡ get_or (pasts_at until places (versions_of ks)) j none
+place_read ks places j v until x none l within read e =
+    ap (filed v.row) e ∙ cells until (version_of v)
     ∙ ap (λ (w : Version). past_of (ending until w)) (sym (at_read ks (get_or places j 0) v within read))
     ∙ sym (get_or-map (λ i. past_of (ending until (version_at (versions_of ks) i))) places j 0 none l)
   where

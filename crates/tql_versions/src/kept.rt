@@ -1,5 +1,5 @@
 //! Changes, commits and rollbacks on a plain list of versions.
-ghost use Rattle.std.specs.Prelude.{◌≡◌, ◌≤◌, ◌<◌, ◌+◌, ◌++◌, [], All, OnOk, map, length};
+ghost use Rattle.std.specs.Prelude.{◌≡◌, ◌≤◌, ◌<◌, ◌+◌, ◌++◌, [], All, IfOk, OnOk, map, length};
 ghost use Rattle.std.specs.Prelude.{false, true, if◌then◌else◌, vec_len, vec_capacity, ◌<ℤ◌};
 ghost use Rattle.tql_spec.specs.Calendar.{high};
 ghost use Rattle.tql_period.specs.Points.{points_of};
@@ -113,15 +113,66 @@ pub fn replace(
     add_each(versions, added, moment);
 }
 
+/// Returns the number of positions below `base`.
+#[tactic(auto, using(crate::proofs::Marking::below_more))]
+fn count_below(places: &[usize], base: usize) -> usize
+    ensures { result ≡ length (below base places.now) }
+{
+    let mut count = 0;
+    for place in places {
+        if *place < base {
+            count += 1;
+        }
+    }
+    count
+}
+
+/// Makes room for more positions. An empty list gets room for just these: it has nothing to copy.
+fn reserve_places(list: &mut Vec<usize, Memory>, more: usize) -> Result<(), AllocError>
+    ensures items { list.new.items ≡ list.old.items }
+    ensures len { vec_len list.new ≡ vec_len list.old }
+    ensures ok { OnOk result (vec_len list.new + more ≤ vec_capacity list.new) }
+{
+    if list.is_empty() {
+        list.reserve_exact(more)
+    } else {
+        list.reserve(more)
+    }
+}
+
+/// Makes room to record the positions: those below `base` as ended, the others as dead. Returns the number of those
+/// below.
+#[tactic(auto, using(crate::proofs::Marking::marks_split))]
+pub fn reserve_marks(
+    ended: &mut Vec<usize, Memory>,
+    dead: &mut Vec<usize, Memory>,
+    places: &[usize],
+    base: usize,
+) -> Result<usize, AllocError>
+    ensures ended_items { ended.new.items ≡ ended.old.items }
+    ensures ended_len { vec_len ended.new ≡ vec_len ended.old }
+    ensures dead_items { dead.new.items ≡ dead.old.items }
+    ensures dead_len { vec_len dead.new ≡ vec_len dead.old }
+    ensures count { IfOk result (λ count. count ≡ length (below base places.now)) }
+    ensures ended { OnOk result (vec_len ended.new + length (below base places.now) ≤ vec_capacity ended.new) }
+    ensures dead { OnOk result (vec_len dead.new + length (from base places.now) ≤ vec_capacity dead.new) }
+{
+    let count = count_below(places, base);
+    reserve_places(ended, count)?;
+    reserve_places(dead, places.len() - count)?;
+    Ok(count)
+}
+
 /// Records the positions: those below `base` as ended, the others as dead. Allocates no memory.
+#[tactic(auto, using(crate::proofs::Marking::below_more, crate::proofs::Marking::from_more))]
 pub fn mark_each(
     ended: &mut Vec<usize, Memory>,
     dead: &mut Vec<usize, Memory>,
     places: &[usize],
     base: usize,
 )
-    requires ended { vec_len ended.old + length places.now ≤ vec_capacity ended.old }
-    requires dead { vec_len dead.old + length places.now ≤ vec_capacity dead.old }
+    requires ended { vec_len ended.old + length (below base places.now) ≤ vec_capacity ended.old }
+    requires dead { vec_len dead.old + length (from base places.now) ≤ vec_capacity dead.old }
     ensures ended { ended.new.items ≡ ended.old.items ++ below base places.now }
     ensures dead { dead.new.items ≡ dead.old.items ++ from base places.now }
 {

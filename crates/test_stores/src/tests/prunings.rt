@@ -29,7 +29,7 @@ fn rows_of(memory: Memory, numbers: &[i64]) -> Result<Vec<Row, Memory>, Refusal>
 }
 
 /// Returns a change that removes all rows and adds one of each number.
-fn renewal(
+pub fn renewal(
     memory: Memory,
     store: &Store<TreeIndex>,
     table: TableId,
@@ -49,7 +49,7 @@ fn renewal(
 }
 
 /// Replaces all rows of a table at the moment by one of each number.
-fn change(
+pub fn change(
     rt: &impl Abort,
     all: Memory,
     store: &mut Store<TreeIndex>,
@@ -76,7 +76,7 @@ fn renew(
 }
 
 /// Adds a table whose rows are found by its first column, and by the second with the first.
-fn add(
+pub fn add(
     rt: &impl Abort,
     all: Memory,
     store: &mut Store<TreeIndex>,
