@@ -166,7 +166,9 @@ version_prints d portion t w conds v f k =
     row = shown d (version_of v).row
 
     prints : All IsPrintable row
-    prints = generated_prints d.system (version_of v).row.cells v.kept.now.start high f.cells.printable f.start high_is_moment
+    prints =
+        generated_prints d.system (version_of v).row.cells v.kept.now.start high f.cells.printable f.start
+        high_is_moment
 
     by_portion : (p : Option Period)
         → (IsTrue (is_some p) → IsTypedDefinition d × IsTypedWork d p (work_of t w) × AreOfKinds (kinds_of d) row)

@@ -16,7 +16,8 @@ front_mapped g (Some y) (Some ys) = refl
 pub each_mapped : {X A B : Type 0} (f : X → Option A) (g : A → B) (xs : List X)
     → map_all (λ x. option_map g (f x)) xs ≡ option_map (map g) (map_all f xs)
 each_mapped f g [] = refl
-each_mapped f g (x ∷ xs) = ap (with_front (option_map g (f x))) (each_mapped f g xs) ∙ front_mapped g (f x) (map_all f xs)
+each_mapped f g (x ∷ xs) =
+    ap (with_front (option_map g (f x))) (each_mapped f g xs) ∙ front_mapped g (f x) (map_all f xs)
 
 -- the reason of a refusal
 pub fails_as : {A B : Type 0} (f : A → B) (o : Option B) (e : Refusal) (result : Result A Refusal)

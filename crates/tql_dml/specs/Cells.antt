@@ -1,6 +1,6 @@
 -- The cells of new rows, and their faults.
-use Rattle.std.specs.Prelude.{◌≡◌, ℕ, Bool, false, not, ◌&&◌, ◌||◌, List, [], ◌∷◌, ◌++◌, map, slice_index_or, pos, int_lt}
-use Rattle.std.specs.Prelude.{length, Option, Some, None}
+use Rattle.std.specs.Prelude.{◌≡◌, ℕ, Bool, false, not, ◌&&◌, ◌||◌, List, [], ◌∷◌, ◌++◌, map, slice_index_or, pos}
+use Rattle.std.specs.Prelude.{int_lt, length, Option, Some, None}
 use Rattle.std.specs.List.{flat_map}
 use Rattle.tql_spec.specs.Calendar.{high}
 use Rattle.tql_spec.specs.Datum.{Datum, Row, Ints, is_null}

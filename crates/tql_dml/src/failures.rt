@@ -272,7 +272,7 @@ pub fn inserted_rows(
     ensures { IfOk result (λ rows. rows.items
         ≡ map (stored_cells table.now.definition columns.now) (rows_of values.entry.items)) }
 {
-    new_rows(memory, &table.definition, columns, &values)
+    new_rows(memory, &table.definition, columns, values)
 }
 
 /// Returns the rows that an INSERT of tuples would add, even if they have faults. Refused if an evaluation overflows 64

@@ -61,7 +61,7 @@ pub fn insert_rows(
         (added_rows table.now.definition columns.now (Some (rows_of rows.entry.items))) result }
     ensures fits { IfOk result (λ delta. All (IsRowOf table.now.definition) delta.added.items) }
 {
-    let added = new_rows(memory, &table.definition, columns, &rows)?;
+    let added = new_rows(memory, &table.definition, columns, rows)?;
     adding(memory, table, added)
 }
 

@@ -6,6 +6,7 @@ ghost use Rattle.tql_value.specs.declared.refusal.Refusal.TheVariants.{OutOfMemo
 ghost use Rattle.tql_dml.specs.Cells.{data_of, stored_cells, StoresAsGiven};
 
 use crate::draft::{fill, nulls, packed, views_of};
+use std::mem;
 use tql_catalog::table_def::TableDef;
 use tql_expr::row::Row;
 use tql_memory::Memory;
@@ -73,21 +74,23 @@ fn row_of_values(
     new_row(memory, definition, columns, stored, views.as_slice())
 }
 
-/// Returns the stored cells of the new row of each list of values. The only error is a refused allocation.
+/// Returns the stored cells of the new row of each list of values. A list is freed once its row is packed. The only
+/// error is a refused allocation.
 pub(crate) fn new_rows(
     memory: Memory,
     definition: &TableDef,
     columns: &[usize],
-    tuples: &[Vec<Value, Memory>],
+    mut tuples: Vec<Vec<Value, Memory>, Memory>,
 ) -> Result<Vec<Row, Memory>, Refusal>
     ensures rows { IfOk result
-        (λ rows. rows.items ≡ map (stored_cells definition.now columns.now) (rows_of tuples.now)) }
+        (λ rows. rows.items ≡ map (stored_cells definition.now columns.now) (rows_of tuples.entry.items)) }
     ensures memory { IfErr result (λ e. e ≡ OutOfMemory) }
 {
     let stored = are_stored(definition, columns);
     let mut rows = Vec::with_capacity(memory, tuples.len())?;
-    for tuple in tuples {
-        rows.push(row_of_values(memory, definition, columns, stored, tuple)?)?;
+    for tuple in tuples.iter_mut() {
+        let values = mem::replace(tuple, Vec::new(memory));
+        rows.push(row_of_values(memory, definition, columns, stored, &values)?)?;
     }
     Ok(rows)
 }

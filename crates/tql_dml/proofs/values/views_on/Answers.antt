@@ -15,7 +15,8 @@ loop-expr-preserved c =
     let x : ExprId = slice_index_or tuple place (record { place = 0 }) in
     let view = c.in_ok-view_on.field-0 in
     one_more (eval [] []) (expr c.args.terms.now) (data_of c.loop-expr.views.items) (data_of c.push.new.self.items)
-    tuple place x (datum_of_view view) _ (omega arith) (get_or_default tuple place (record { place = 0 }) x (omega arith))
+    tuple place x (datum_of_view view) _ (omega arith)
+    (get_or_default tuple place (record { place = 0 }) x (omega arith))
     c.in_ok-view_on.ensures
     (ap data_of c.in_ok-push.ensures.ok ∙ map_push datum_of_view c.loop-expr.views.items view)
     c.loop-expr.invariant
