@@ -170,12 +170,7 @@ impl<I: IntervalIndex> Engine<I> {
     }
 
     /// Returns the detail of rows that an INSERT adds.
-    fn added_fault(
-        &self,
-        place: usize,
-        added: Vec<Row, Memory>,
-        refusal: Refusal,
-    ) -> Option<Detail>
+    fn added_fault(&self, place: usize, added: Vec<Row, Memory>, refusal: Refusal) -> Option<Detail>
         requires within { place < length self.now.tables }
     {
         let table = self.table_at(place);
