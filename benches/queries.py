@@ -35,6 +35,7 @@ QUESTIONS = [
     ("GROUP BY in 100 groups, with COUNT and SUM", "plain", "SELECT k, COUNT(*), SUM(n) FROM t GROUP BY k;", None),
     ("GROUP BY in N groups", "plain", "SELECT n, COUNT(*) FROM t GROUP BY n;", None),
     ("DISTINCT, of 100 values", "plain", "SELECT DISTINCT k FROM t;", None),
+    ("SELECT of all rows", "plain", "SELECT n, k FROM t;", None),
     ("ORDER BY of all rows", "plain", "SELECT n, k FROM t ORDER BY n DESC;", None),
     ("INSERT of all rows from a SELECT", "plain", f"START TRANSACTION; {TAKEN}", f"BEGIN; {TAKEN}"),
     ("a join on an equality", "plain", "SELECT t.n, u.k FROM t JOIN u ON t.n = u.n;", None),
