@@ -73,16 +73,6 @@ pub greatest_before : (b : Bool) (e : Entry) (old new : List Entry) (g n : ℤ) 
 greatest_before true e old new g n s h f = h ∙ greatest_of_bag old (e ∷ new) s ∙ rw f refl
 greatest_before false e old new g n s h f = h ∙ ap greatest_end (sym s.0)
 
--- the greatest end from before the removal of the first entries
-pub first_before : (m l k r : List Entry) (g n : ℤ) → l ≡ m ++ k → g ≡ greatest_end (l ++ r) → n ≡ greatest_end m
-    → g ≡ int_max n (greatest_end (k ++ r))
-first_before m l k r g n e h f =
-    let a = rw e at h in
-    let b = greatest_end-append (m ++ k) r in
-    let c = greatest_end-append m k in
-    let d = greatest_end-append k r in
-    omega (arith, ints, clamps, a, b, c, d, f)
-
 -- the greatest end before first entries are added
 pub first_more : (m l k r : List Entry) (g n : ℤ) → k ≡ m ++ l → g ≡ greatest_end (l ++ r) → n ≡ greatest_end m
     → int_max g n ≡ greatest_end (k ++ r)

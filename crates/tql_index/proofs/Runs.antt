@@ -20,7 +20,7 @@ use Rattle.tql_index.specs.Slots.{entry_of, entries_in}
 use Rattle.tql_index.specs.Tree.{is_before, before, after, entry_cmp, IsInOrder, IsPlace, IsSide}
 use Rattle.tql_index.specs.Tree.{greatest_end, StartsLate, IsRun}
 use Rattle.tql_index.specs.declared.slot.Slot.{Slot}
-use Rattle.tql_index.proofs.Branches.{greatest_end-append, least_below}
+use Rattle.tql_index.proofs.Branches.{greatest_end-append, least_below, greater_of}
 use Rattle.tql_index.proofs.Counts.{none_if_all, all_by_index, none_by_index, one_fails, one_passes, member_all, both}
 use Rattle.tql_index.proofs.Counts.{member_none, either, count-cons, bit_none}
 use Rattle.tql_index.proofs.Finding.{ids_of, ids_of-cons, ids_of-append, ids_of-none, starts_later}
@@ -343,3 +343,14 @@ halves_bag ts lower upper e es h s =
 pub is_run : (ss : List Slot) (g : ℤ) → IsInOrder (entries_in ss) → length ss ≤ 32 → g ≡ greatest_end (entries_in ss)
     → IsRun (entries_in ss) g
 is_run ss g h l e = record { in_order = h; few = omega (arith, l, length-map ss entry_of); greatest_is = e }
+
+-- ---- a run is joined to the run before it
+
+pub is_joined : (ss ts us : List Slot) (g a b : ℤ) → us ≡ ss ++ ts → IsInOrder (entries_in ss ++ entries_in ts)
+    → length us ≤ 32 → g ≡ int_max a b → a ≡ greatest_end (entries_in ss) → b ≡ greatest_end (entries_in ts)
+    → IsRun (entries_in us) g
+is_joined ss ts us g a b e o l h p q =
+    let j : entries_in us ≡ entries_in ss ++ entries_in ts = ap entries_in e ∙ map-append entry_of ss ts in
+    is_run us g (subst (λ z. IsInOrder z) (sym j) o) l
+    (greater_of g g (greatest_end (entries_in ss)) (greatest_end (entries_in ts)) a b h refl p q
+    ∙ sym (greatest_end-append (entries_in ss) (entries_in ts)) ∙ ap greatest_end (sym j))

@@ -1,6 +1,7 @@
 -- The order of the entries when sides are rotated: the same list is joined otherwise.
-use Rattle.std.specs.Prelude.{◌≡◌, List, ◌++◌}
-use Rattle.std.proofs.Common.{append_assoc, sym, ap, ◌∙◌, subst}
+use Rattle.std.specs.Prelude.{◌≡◌, refl, ℕ, ◌+◌, ◌*◌, ◌^◌, ◌<◌, ◌≤◌, List, [], ◌∷◌, ◌++◌, length}
+use Rattle.std.proofs.Common.{arith, append_assoc, sym, ap, ◌∙◌, subst}
+use Rattle.std.proofs.lemmas.List.{append-nil}
 use Rattle.tql_index.specs.Entry.{Entry}
 use Rattle.tql_index.specs.Tree.{IsInOrder}
 use Rattle.tql_index.proofs.Inversions.{order_left, order_right}
@@ -74,14 +75,48 @@ back_inner x t u m v s z r y e f h =
     order_right m (v ++ (s ++ z)) (order_right (x ++ (t ++ u)) (m ++ (v ++ (s ++ z)))
     (in_order_as (x ++ (t ++ r)) ((x ++ (t ++ u)) ++ (m ++ (v ++ (s ++ z)))) (back_joined x t u m v s z r y e f) h))
 
--- ---- first entries are added or removed
+-- ---- first entries are added
 
 pub least_left : (m l n r t : List Entry) → t ≡ l ++ (n ++ r) → IsInOrder (m ++ t) → IsInOrder (m ++ l)
 least_left m l n r t e h =
     order_left (m ++ l) (n ++ r)
     (in_order_as (m ++ t) ((m ++ l) ++ (n ++ r)) (ap (λ w. m ++ w) e ∙ sym (append_assoc m l (n ++ r))) h)
 
-pub rest_order : (m l n r k : List Entry) → l ≡ m ++ k → IsInOrder (l ++ (n ++ r)) → IsInOrder (k ++ (n ++ r))
-rest_order m l n r k e h =
-    order_right m (k ++ (n ++ r))
-    (in_order_as (l ++ (n ++ r)) (m ++ (k ++ (n ++ r))) (ap (λ w. w ++ (n ++ r)) e ∙ append_assoc m k (n ++ r)) h)
+-- ---- first entries l are moved from a list t, which goes on with x, to the list m before it
+
+-- the left side that has them becomes j, and m becomes k
+pub moved : (m k l j x t : List Entry) → k ++ j ≡ m ++ l → t ≡ l ++ x → k ++ (j ++ x) ≡ m ++ t
+moved m k l j x t h e =
+    sym (append_assoc k j x) ∙ ap (λ w. w ++ x) h ∙ append_assoc m l x ∙ ap (λ w. m ++ w) (sym e)
+
+pub moved_order : (m k l j x t : List Entry) → k ++ j ≡ m ++ l → t ≡ l ++ x → IsInOrder (m ++ t) → IsInOrder (j ++ x)
+moved_order m k l j x t h e o =
+    order_right k (j ++ x) (in_order_as (m ++ t) (k ++ (j ++ x)) (sym (moved m k l j x t h e)) o)
+
+-- there is no left side, so the run n comes first
+pub first_order : (m l n r t : List Entry) → l ≡ [] → t ≡ l ++ (n ++ r) → IsInOrder (m ++ t) → IsInOrder (m ++ n)
+first_order m l n r t q e h =
+    let w : m ++ t ≡ (m ++ n) ++ r =
+    ap (λ z. m ++ z) (e ∙ ap (λ z. z ++ (n ++ r)) q) ∙ sym (append_assoc m n r) in
+    order_left (m ++ n) r (in_order_as (m ++ t) ((m ++ n) ++ r) w h)
+
+-- a run that is still empty has no entries to its right
+pub nothing_right : (l m r k : List Entry) → r ≡ [] → (0 < length m → 0 < length k) → length k ≡ 0
+    → l ++ (m ++ r) ≡ l
+nothing_right l [] r k q f h = ap (λ z. l ++ z) q ∙ append-nil l
+nothing_right l (e ∷ m) r k q f h = absurd (omega (arith, f (omega arith), h))
+
+-- ---- a left side l that is one run s is joined to the run after it
+
+pub one_run : (x s y l : List Entry) → x ≡ [] → y ≡ [] → l ≡ x ++ (s ++ y) → l ≡ s
+one_run x s y l p q e = e ∙ ap (λ w. w ++ (s ++ y)) p ∙ ap (λ w. s ++ w) q ∙ append-nil s
+
+pub last_order : (l s t z : List Entry) → l ≡ s → IsInOrder (l ++ (t ++ z)) → IsInOrder (s ++ t)
+last_order l s t z e h =
+    order_left (s ++ t) z
+    (in_order_as (l ++ (t ++ z)) ((s ++ t) ++ z) (ap (λ w. w ++ (t ++ z)) e ∙ sym (append_assoc s t z)) h)
+
+-- a tree without height has no entries
+pub no_entries : (es : List Entry) (h : ℕ) → length es + 32 ≤ 32 * 2 ^ h → h ≡ 0 → es ≡ []
+no_entries [] h d z = refl
+no_entries (e ∷ es) h d z = let q = rw z at d in absurd (omega (arith, q))

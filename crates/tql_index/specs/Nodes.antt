@@ -1,5 +1,5 @@
 -- The model of the trees of the code, level by level.
-use Rattle.std.specs.Prelude.{◌≡◌, ◌+◌, ◌<◌, ◌≤◌, max, List, [], ◌++◌, length}
+use Rattle.std.specs.Prelude.{◌≡◌, ◌+◌, ◌<◌, max, List, [], ◌++◌, length}
 use Rattle.tql_index.specs.Entry.{Entry}
 use Rattle.tql_index.specs.Line.{place_of}
 use Rattle.tql_index.specs.Tree.{Contents, IsBranch, DifferByAtMost}
@@ -33,10 +33,3 @@ pub record IsParted {A : Type 0} (tree : Contents) (parts : Parts A) : Type 0 wh
 pub record IsTop {A : Type 0} (tree : Contents) (top : Branch A) : Type 0 where
   pub entries : tree.entries ≡ entries_below top
   pub branch : IsBranch top.left top.run tree.height (place_of top.greatest) top.right
-
--- a tree without its first run
-pub record IsWithoutLeast (tree : Contents) (least : List Entry) (rest : Contents) : Type 0 where
-  pub entries : tree.entries ≡ least ++ rest.entries
-  pub some : 0 < length least
-  pub not_higher : rest.height ≤ tree.height
-  pub at_most_one_lower : tree.height ≤ rest.height + 1

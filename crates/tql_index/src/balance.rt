@@ -11,7 +11,7 @@ use std::alloc::Allocator;
 use std::mem;
 
 // Builds a balanced tree from a branch whose sides were changed in place. Its greatest end must be up to date.
-fn settle<A: Allocator>(mut top: Box<Branch<A>, A>) -> Tree<A>
+pub fn settle<A: Allocator>(mut top: Box<Branch<A>, A>) -> Tree<A>
     requires some { 0 < length top.value.run }
     requires in_order { IsInOrder (entries_below top.value) }
     requires near { DifferByAtMost 2 top.value.left.height top.value.right.height }
@@ -26,7 +26,11 @@ fn settle<A: Allocator>(mut top: Box<Branch<A>, A>) -> Tree<A>
     }
     let left = mem::replace(&mut top.left, Tree::new());
     let right = mem::replace(&mut top.right, Tree::new());
-    balance(left, top, right)
+    if left_height > right_height {
+        lean_right(left, top, right)
+    } else {
+        lean_left(left, top, right)
+    }
 }
 
 // As `settle`, after entries of which the last to end ends at `end` were added to a side or to the run, if `added`. The
@@ -65,27 +69,9 @@ pub fn settle_less<A: Allocator>(mut top: Box<Branch<A>, A>, found: bool, end: P
     settle(top)
 }
 
-// Builds a balanced tree from two sides and the run between them. `settle` seldom calls it, and is to stay short.
-#[inline(never)]
-pub fn balance<A: Allocator>(left: Tree<A>, top: Box<Branch<A>, A>, right: Tree<A>) -> Tree<A>
-    requires some { 0 < length top.value.run }
-    requires in_order { IsInOrder (left.entries ++ (top.value.run ++ right.entries)) }
-    requires near { DifferByAtMost 2 left.height right.height }
-    requires room { max left.height right.height ≤ 200 }
-    ensures entries { result.entries ≡ left.entries ++ (top.value.run ++ right.entries) }
-    ensures height { IsHeightAfterBalance left.height right.height result.height }
-{
-    let (left_height, right_height) = (left.height(), right.height());
-    if left_height > right_height + 1 {
-        lean_right(left, top, right)
-    } else if right_height > left_height + 1 {
-        lean_left(left, top, right)
-    } else {
-        link(left, top, right)
-    }
-}
-
 // Balances a left side that is two higher. The top of that side, or of its inner side, becomes the top.
+// `settle` seldom calls it, and is to stay short.
+#[inline(never)]
 fn lean_right<A: Allocator>(left: Tree<A>, top: Box<Branch<A>, A>, right: Tree<A>) -> Tree<A>
     requires some { 0 < length top.value.run }
     requires in_order { IsInOrder (left.entries ++ (top.value.run ++ right.entries)) }
@@ -122,6 +108,8 @@ fn lean_right<A: Allocator>(left: Tree<A>, top: Box<Branch<A>, A>, right: Tree<A
 }
 
 // Balances a right side that is two higher. The top of that side, or of its inner side, becomes the top.
+// `settle` seldom calls it, and is to stay short.
+#[inline(never)]
 fn lean_left<A: Allocator>(left: Tree<A>, top: Box<Branch<A>, A>, right: Tree<A>) -> Tree<A>
     requires some { 0 < length top.value.run }
     requires in_order { IsInOrder (left.entries ++ (top.value.run ++ right.entries)) }

@@ -1,19 +1,20 @@
 //! Inserts and removes entries in place. A branch is changed wherever one of its sides is.
 ghost use Rattle.std.specs.Prelude.{◌≡◌, ◌+◌, ◌<◌, ◌≤◌, max, [], ◌∷◌, ◌++◌, length};
-ghost use Rattle.std.specs.Prelude.{IfOk, IfSome, IfNone, OnOk, OnErr};
+ghost use Rattle.std.specs.Prelude.{OnOk, OnErr};
+ghost use Rattle.std.specs.Bool.{OnFalse};
 ghost use Rattle.std.specs.declared.cmp.Ordering.TheVariants.{Equal};
 ghost use Rattle.tql_spec.specs.Bag.{SameBag};
 ghost use Rattle.tql_index.specs.Entry.{Removes};
 ghost use Rattle.tql_index.specs.Line.{place_of};
 ghost use Rattle.tql_index.specs.Slots.{entry_of};
 ghost use Rattle.tql_index.specs.Tree.{DifferByAtMost, HasRoom, IsInOrder, WasGreatest};
-ghost use Rattle.tql_index.specs.Nodes.{entries_below, IsWithoutLeast};
+ghost use Rattle.tql_index.specs.Nodes.{entries_below};
 
-use crate::balance::{balance, settle_less, settle_more};
+use crate::balance::{settle, settle_less, settle_more};
 use crate::line::Place;
-use crate::run::Run;
+use crate::run::{FULL, JOINED, Run, SPARSE};
 use crate::slot::Slot;
-use crate::tree::{Branch, Tree, link};
+use crate::tree::{Branch, Tree, hold, link};
 use std::alloc::{AllocError, Allocator};
 use std::cmp::Ordering;
 use std::mem;
@@ -45,8 +46,8 @@ fn room_for<A: Allocator>(top: &Branch<A>, slot: Slot) -> Ordering
     ensures { HasRoom result (entry_of slot) top.now.left.entries top.now.run top.now.right.entries }
 {
     match top.run.side(slot) {
-        Ordering::Less if top.left.is_empty() && !top.run.is_full() => Ordering::Equal,
-        Ordering::Greater if top.right.is_empty() && !top.run.is_full() => Ordering::Equal,
+        Ordering::Less if top.left.is_empty() && top.run.len() < FULL => Ordering::Equal,
+        Ordering::Greater if top.right.is_empty() && top.run.len() < FULL => Ordering::Equal,
         side => side,
     }
 }
@@ -67,7 +68,7 @@ fn put<A: Allocator + Copy>(top: &mut Branch<A>, slot: Slot, memory: A) -> Resul
     ensures not_lower { top.old.right.height ≤ top.new.right.height }
     ensures at_most_one_higher { top.new.right.height ≤ top.old.right.height + 1 }
 {
-    if !top.run.is_full() {
+    if top.run.len() < FULL {
         let answer = top.run.put(slot);
         top.run.know();
         return answer;
@@ -117,42 +118,89 @@ pub fn insert<A: Allocator + Copy>(
     }
 }
 
-// Removes the first run of a tree and returns it.
-fn take_least<A: Allocator>(tree: &mut Tree<A>) -> Option<Box<Branch<A>, A>>
-    requires room { tree.old.height ≤ 199 }
-    ensures some { IfSome result (λ b. IsWithoutLeast tree.old b.value.run tree.new) }
-    ensures none { IfNone result (tree.old ≡ record { entries = []; height = 0 }) }
+// Whether a run is to take in the entries of the first run of a tree: it is empty, or both have few entries together.
+fn takes_first<A: Allocator>(run: &Run<A>, tree: &Tree<A>) -> bool
+    ensures { OnFalse result (0 < length run.now) }
 {
-    let mut top = tree.take()?;
-    let Some(least) = take_least(&mut top.left) else {
-        *tree = mem::replace(&mut top.right, Tree::new());
-        return Some(top);
+    let Some(top) = tree.top() else {
+        return run.len() == 0;
     };
-    *tree = settle_less(top, true, least.run.end());
-    Some(least)
+    if !top.left.is_empty() {
+        return takes_first(run, &top.left);
+    }
+    run.len() == 0 || run.len() + top.run.len() <= JOINED
 }
 
-// Returns the tree of a branch's sides, without the run between them.
+// Moves the entries of the first run of a tree to the end of another run, if that is empty or has room for them. The
+// branch of the first run is then freed, and nothing is allocated. `refill` seldom calls it, and is to stay short.
 #[inline(never)]
-fn without_top<A: Allocator>(mut top: Box<Branch<A>, A>) -> Tree<A>
-    requires in_order { IsInOrder (top.value.left.entries ++ top.value.right.entries) }
-    requires balanced { DifferByAtMost 1 top.value.left.height top.value.right.height }
-    requires room { max top.value.left.height top.value.right.height ≤ 199 }
-    ensures entries { result.entries ≡ top.value.left.entries ++ top.value.right.entries }
-    ensures not_lower { max top.value.left.height top.value.right.height ≤ result.height }
-    ensures at_most_one_higher { result.height ≤ max top.value.left.height top.value.right.height + 1 }
+fn move_first<A: Allocator>(run: &mut Run<A>, tree: &mut Tree<A>)
+    requires in_order { IsInOrder (run.old ++ tree.old.entries) }
+    requires room { tree.old.height ≤ 199 }
+    ensures entries { run.new ++ tree.new.entries ≡ run.old ++ tree.old.entries }
+    ensures some { 0 < length run.old → 0 < length run.new }
+    ensures none { length run.new ≡ 0 → tree.old ≡ record { entries = []; height = 0 } }
+    ensures not_higher { tree.new.height ≤ tree.old.height }
+    ensures at_most_one_lower { tree.old.height ≤ tree.new.height + 1 }
 {
-    let left = mem::replace(&mut top.left, Tree::new());
-    let mut right = mem::replace(&mut top.right, Tree::new());
-    match take_least(&mut right) {
-        None => left,
-        Some(least) => balance(left, least, right),
+    let Some(mut top) = tree.take() else {
+        return;
+    };
+    if top.left.is_empty() {
+        if run.join(&mut top.run) {
+            *tree = mem::replace(&mut top.right, Tree::new());
+        } else {
+            *tree = settle(top);
+        }
+        return;
+    }
+    move_first(run, &mut top.left);
+    top.greatest = top.greatest_end();
+    *tree = settle(top);
+}
+
+// Joins the run of a branch with the next run or the one before it, if it is sparse and both have few entries together.
+// The next one is the first run of the right side. The one before is tried only if it is all of the left side. The
+// branch of the other run is freed, and nothing is allocated. After that the run is empty only if all others are to its
+// left.
+fn refill<A: Allocator>(top: &mut Branch<A>)
+    requires in_order { IsInOrder (entries_below top.old) }
+    requires room { max top.old.left.height top.old.right.height ≤ 199 }
+    ensures entries { entries_below top.new ≡ entries_below top.old }
+    ensures greatest { top.new.greatest ≡ top.old.greatest }
+    ensures empty { length top.new.run ≡ 0 →
+        (top.new.left ≡ top.old.left) × (entries_below top.old ≡ top.old.left.entries) × (top.old.right.height ≡ 0) }
+    ensures left_not_higher { top.new.left.height ≤ top.old.left.height }
+    ensures left_at_most_one_lower { top.old.left.height ≤ top.new.left.height + 1 }
+    ensures right_not_higher { top.new.right.height ≤ top.old.right.height }
+    ensures right_at_most_one_lower { top.old.right.height ≤ top.new.right.height + 1 }
+{
+    if top.run.len() > SPARSE {
+        return;
+    }
+    if takes_first(&top.run, &top.right) {
+        move_first(&mut top.run, &mut top.right);
+        return;
+    }
+    if top.left.height() != 1 {
+        return;
+    }
+    let Some(mut last) = top.left.take() else {
+        return;
+    };
+    last.left.know();
+    last.right.know();
+    if last.run.join(&mut top.run) {
+        mem::swap(&mut last.run, &mut top.run);
+    } else {
+        top.left = hold(last, 1);
     }
 }
 
 // Returns the tree of a branch after an entry that ends at `end` was removed from its run, if `found`. The branch still
-// has its old greatest end. A run that became empty is removed with its branch.
-fn settle_run<A: Allocator>(top: Box<Branch<A>, A>, found: bool, end: Place) -> Tree<A>
+// has its old greatest end. A run that became sparse is joined with another, and a branch whose run is empty then is
+// removed.
+fn settle_run<A: Allocator>(mut top: Box<Branch<A>, A>, found: bool, end: Place) -> Tree<A>
     requires in_order { IsInOrder (entries_below top.value) }
     requires balanced { DifferByAtMost 1 top.value.left.height top.value.right.height }
     requires room { max top.value.left.height top.value.right.height ≤ 199 }
@@ -162,11 +210,11 @@ fn settle_run<A: Allocator>(top: Box<Branch<A>, A>, found: bool, end: Place) -> 
     ensures not_lower { max top.value.left.height top.value.right.height ≤ result.height }
     ensures at_most_one_higher { result.height ≤ max top.value.left.height top.value.right.height + 1 }
 {
-    if top.run.is_empty() {
-        without_top(top)
-    } else {
-        settle_less(top, found, end)
+    refill(&mut top);
+    if top.run.len() == 0 {
+        return mem::replace(&mut top.left, Tree::new());
     }
+    settle_less(top, found, end)
 }
 
 // Removes one entry that equals another one, if there is one. Returns whether there was.

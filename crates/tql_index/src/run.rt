@@ -1,7 +1,7 @@
 //! Runs of entries in order, of which each branch of a tree keeps one. The model of a run is the list of its entries.
 ghost use Rattle.std.specs.Prelude.{◌≡◌, ◌+◌, ◌+ℤ◌, ◌<◌, ◌≤◌, ◌==◌, true, pos, [], ◌∷◌, ◌++◌, length};
 ghost use Rattle.std.specs.Prelude.{OnOk, OnErr, IfOk};
-ghost use Rattle.std.specs.Bool.{OnFalse};
+ghost use Rattle.std.specs.Bool.{OnTrue, OnFalse};
 ghost use Rattle.std.specs.List.{insert};
 ghost use Rattle.tql_spec.specs.Bag.{SameBag};
 ghost use Rattle.tql_index.specs.Entry.{ids_at, ids_sharing, Removes};
@@ -17,10 +17,18 @@ use crate::span::Span;
 use std::alloc::{AllocError, Allocator};
 use std::cmp::Ordering;
 use std::marker::Model;
+use std::mem;
 use tql_memory::Memory;
 
 // The number of entries of a run that is split before another is added. While it is split it has one more.
-const FULL: usize = 31;
+pub const FULL: usize = 31;
+
+// The number of entries up to which a run that lost one is joined with another run.
+pub const SPARSE: usize = 15;
+
+// The number of entries up to which two runs are joined. It is below that of a full run, so that additions and removals
+// of single entries do not split and join a run in turn.
+pub const JOINED: usize = 30;
 
 // Returns the number of entries that are before another one.
 fn place_in(slots: &[Slot], slot: Slot) -> usize
@@ -144,18 +152,12 @@ impl<A: Allocator> Run<A> {
         })
     }
 
-    // Whether there are no entries.
-    pub fn is_empty(&self) -> bool
-        ensures { result ≡ (length self.now == 0) }
+    // Returns the number of entries.
+    pub fn len(&self) -> usize
+        ensures count { result ≡ length self.now }
+        ensures few { result ≤ 32 }
     {
-        self.slots.is_empty()
-    }
-
-    // Whether the run is split before another entry is added.
-    pub fn is_full(&self) -> bool
-        ensures { OnFalse result (length self.now < 32) }
-    {
-        self.slots.len() >= FULL
+        self.slots.len()
     }
 
     // States what is known of each run. Does nothing.
@@ -230,6 +232,29 @@ impl<A: Allocator> Run<A> {
         }
         self.slots.remove(place);
         self.ends = ends_of(&self.slots, last_end(&self.slots), slot);
+        true
+    }
+
+    // Moves the entries of the next run to the end of this one, if this one is empty or both have few entries together.
+    // Returns whether it did. Allocates nothing, since a run that is not empty has room for a full one.
+    pub fn join(&mut self, next: &mut Run<A>) -> bool
+        requires { IsInOrder (self.old ++ next.old) }
+        ensures joined { OnTrue result (self.new ≡ self.old ++ next.old) }
+        ensures unchanged { OnFalse result ((self.new ≡ self.old) × (next.new ≡ next.old) × (0 < length self.old)) }
+    {
+        if self.slots.is_empty() {
+            mem::swap(self, next);
+            return true;
+        }
+        let together = self.slots.len() + next.slots.len();
+        if together > JOINED || together > self.slots.capacity() {
+            return false;
+        }
+        let Ok(()) = self.slots.extend_from_slice(&next.slots) else {
+            return false;
+        };
+        let greatest = self.ends.greatest.later(next.ends.greatest);
+        self.ends = ends_of(&self.slots, greatest, self.ends.first);
         true
     }
 

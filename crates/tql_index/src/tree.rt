@@ -1,10 +1,12 @@
 //! A balanced tree of runs of entries. Its model is the entries in order and the height. Only `hold` puts a branch into
 //! a tree. `take` takes it out to be changed in place, and `unlink` splits a tree into its parts.
 //!
-//! A branch keeps a run of some 16 to 32 entries rather than one, so that a search follows fewer pointers and an entry
-//! takes less memory. The entries of the left side, of the run and of the right side follow each other in order.
+//! A branch keeps a run of 1 to 31 entries rather than one, so that a search follows fewer pointers and an entry takes
+//! less memory. Where no entries were removed, most runs have 16 to 31. Runs that removals have left sparse are joined,
+//! so where many were removed, a run has some 15 to 20. The entries of the left side, of the run and of the right side
+//! follow each other in order.
 ghost use Rattle.std.specs.Prelude.{◌≡◌, ◌+◌, ◌*◌, ◌^◌, ◌<◌, ◌≤◌, max, [], ◌++◌, length, IfOk, IfSome, IfNone};
-ghost use Rattle.std.specs.Bool.{OnTrue};
+ghost use Rattle.std.specs.Bool.{OnTrue, OnFalse};
 ghost use Rattle.tql_index.specs.Line.{place_of};
 ghost use Rattle.tql_index.specs.Tree.{greatest_end, DifferByAtMost, IsInOrder, IsShallow};
 ghost use Rattle.tql_index.specs.Nodes.{entries_below, IsParted, IsTop};
@@ -110,7 +112,8 @@ impl<A: Allocator> Tree<A> {
 
     // Whether there are no entries.
     pub fn is_empty(&self) -> bool
-        ensures { OnTrue result (self.now.entries ≡ []) }
+        ensures none { OnTrue result (self.now ≡ record { entries = []; height = 0 }) }
+        ensures some { OnFalse result (0 < self.now.height) }
     {
         match &self.root {
             Root::Empty => true,

@@ -6,13 +6,13 @@ use Rattle.tql_index.specs.Tree.{IsInOrder}
 use Rattle.tql_index.proofs.Adding.{some_with, order_within, halved_rest, halved_order}
 use Rattle.tql_index.proofs.edit.put.Goals as goal
 
-pub returns-then-not-is_full-clause-some : goal.returns-then-not-is_full-clause-some
-returns-then-not-is_full-clause-some g c =
+pub returns-then-len-lt-FULL-clause-some : goal.returns-then-len-lt-FULL-clause-some
+returns-then-len-lt-FULL-clause-some g c =
     some_with c.put-answer.result (entry_of c.args.slot) c.args.top.now.run c.put-answer.new.self
     (record { added = c.put-answer.ensures.added; unchanged = c.put-answer.ensures.unchanged }) c.requires.some
 
-pub returns-then-not-is_full-clause-in_order : goal.returns-then-not-is_full-clause-in_order
-returns-then-not-is_full-clause-in_order g c =
+pub returns-then-len-lt-FULL-clause-in_order : goal.returns-then-len-lt-FULL-clause-in_order
+returns-then-len-lt-FULL-clause-in_order g c =
     let t = c.args.top.now in
     order_within c.put-answer.result (entry_of c.args.slot) t.left.entries t.run t.right.entries c.put-answer.new.self
     c.requires.place (record { added = c.put-answer.ensures.added; unchanged = c.put-answer.ensures.unchanged })

@@ -1,4 +1,6 @@
+use Rattle.std.proofs.Common.{ap}
 use Rattle.tql_index.specs.Slots.{entry_of}
+use Rattle.tql_index.specs.Tree.{Contents}
 use Rattle.tql_index.proofs.Sides.{room_left, room_right, room_first, room_last, room_any}
 use Rattle.tql_index.proofs.edit.room_for.Goals as goal
 
@@ -6,14 +8,14 @@ pub returns-in-Less : goal.returns-in-Less
 returns-in-Less g c =
     let t = c.args.top.now in
     let e = entry_of c.args.slot in
-    room_first e t.left.entries t.run t.right.entries c.if-is_empty.ensures
+    room_first e t.left.entries t.run t.right.entries (ap (λ (t : Contents). t.entries) c.if-is_empty.ensures.none)
     (room_left e t.left.entries t.run t.right.entries c.in-Less.ensures c.requires.some c.requires.in_order)
 
 pub returns-in-Greater : goal.returns-in-Greater
 returns-in-Greater g c =
     let t = c.args.top.now in
     let e = entry_of c.args.slot in
-    room_last e t.left.entries t.run t.right.entries c.if-is_empty-2.ensures
+    room_last e t.left.entries t.run t.right.entries (ap (λ (t : Contents). t.entries) c.if-is_empty-2.ensures.none)
     (room_right e t.left.entries t.run t.right.entries c.in-Greater.ensures c.requires.some c.requires.in_order)
 
 pub returns-in_default : goal.returns-in_default
