@@ -24,10 +24,10 @@ use Rattle.tql_expr.specs.declared.terms.Aggregate.{Aggregate}
 use Rattle.tql_expr.specs.declared.terms.Terms.{Terms}
 use Rattle.tql_expr.specs.declared.terms.Terms.{Terms}
 use Rattle.tql_exec_group.specs.Begun.{Begins, Enters, IsPart, TakesAt}
-use Rattle.tql_exec_group.specs.Folded.{HasFolded, HaveFolded}
+use Rattle.tql_exec_fold.specs.Folded.{HasFolded, HaveFolded}
 use Rattle.tql_exec_group.specs.Grouped.{joined, kept_keys, keys_of, scope_at, with_key, AreGrouped, HasGrouped}
 use Rattle.tql_exec_numbered.specs.Numbered.{with_row}
-use Rattle.tql_exec_group.specs.declared.fold.Accumulator.{Accumulator}
+use Rattle.tql_exec_fold.specs.declared.fold.Accumulator.{Accumulator}
 use Rattle.tql_exec_group.specs.declared.grouping.Groups.{Groups}
 use Rattle.tql_exec_numbered.proofs.Known.{found_known, row_known, row_new}
 use Rattle.tql_exec_group.proofs.Parts.{inside, joined_more, long_before, parted, replaced, zip_get}

@@ -1,12 +1,9 @@
-pub mod Remaining
-pub mod Bests
 pub mod Scopes
 pub mod Repeats
 pub mod Parts
 pub mod Groups
 pub mod OnGroup
 pub mod Collected
-pub mod Accumulators
 pub mod Turns
 pub mod Indexes
 pub mod Taking

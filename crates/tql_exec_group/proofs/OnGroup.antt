@@ -37,14 +37,14 @@ use Rattle.tql_expr.specs.declared.terms.Aggregate.TheVariants.{Rows, Over}
 use Rattle.tql_expr.specs.declared.terms.CondId.{CondId}
 use Rattle.tql_expr.specs.declared.terms.ExprId.{ExprId}
 use Rattle.tql_expr.specs.declared.terms.Terms.{Terms}
-use Rattle.tql_exec_group.specs.Folded.{HasFolded, HaveFolded}
+use Rattle.tql_exec_fold.specs.Folded.{HasFolded, HaveFolded}
 use Rattle.tql_exec_group.specs.Grouped.{keys_of, with_key}
 use Rattle.tql_exec_group.specs.Places.{cell_in, key_at, place_from}
 use Rattle.tql_exec_group.specs.Results.{AreResults, IsKeyOf, IsResult}
 use Rattle.tql_exec_group.specs.Steps.{aggregate_of, aggregates_in, compared_by, contained_by}
 use Rattle.tql_exec_group.specs.Steps.{node_truth, node_value, passes_by, reads_from, related_by, shown_if, truth_in}
 use Rattle.tql_exec_group.specs.Steps.{value_in, AreSteps, IsStep, LiesIn}
-use Rattle.tql_exec_group.specs.declared.fold.Accumulator.{Accumulator}
+use Rattle.tql_exec_fold.specs.declared.fold.Accumulator.{Accumulator}
 use Rattle.tql_exec_group.specs.declared.on_group.Found.{Found}
 use Rattle.tql_exec_group.specs.declared.steps.Steps.{Steps}
 use Rattle.tql_exec_group.proofs.Parts.{inside, zip_get}

@@ -8,8 +8,8 @@ use Rattle.tql_spec.specs.Datum.{Row}
 use Rattle.tql_expr.specs.declared.terms.Aggregate.{Aggregate}
 use Rattle.tql_expr.specs.declared.terms.Terms.{Terms}
 use Rattle.tql_exec_group.specs.Begun.{TakesAt}
-use Rattle.tql_exec_group.specs.Folded.{HasFolded, HaveFolded, Takes}
-use Rattle.tql_exec_group.specs.declared.fold.Accumulator.{Accumulator}
+use Rattle.tql_exec_fold.specs.Folded.{HasFolded, HaveFolded, Takes}
+use Rattle.tql_exec_fold.specs.declared.fold.Accumulator.{Accumulator}
 use Rattle.tql_exec_group.proofs.Turns.{all_turned, one_turned, AllTurned}
 
 module _ {X : Type 0} (part after : List X) (i : ℕ) (within : i < length part) where

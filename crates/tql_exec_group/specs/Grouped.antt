@@ -9,9 +9,9 @@ use Rattle.tql_expr.specs.declared.terms.Aggregate.{Aggregate}
 use Rattle.tql_expr.specs.declared.terms.CondId.{CondId}
 use Rattle.tql_expr.specs.declared.terms.ExprId.{ExprId}
 use Rattle.tql_expr.specs.declared.terms.Terms.{Terms}
-use Rattle.tql_exec_group.specs.Folded.{HaveFolded}
+use Rattle.tql_exec_fold.specs.Folded.{HaveFolded}
 use Rattle.tql_exec_group.specs.Steps.{AreSteps, IsStepped}
-use Rattle.tql_exec_group.specs.declared.fold.Accumulator.{Accumulator}
+use Rattle.tql_exec_fold.specs.declared.fold.Accumulator.{Accumulator}
 use Rattle.tql_exec_group.specs.declared.grouping.Grouping.{Grouping}
 use Rattle.tql_exec_group.specs.declared.grouping.Groups.{Groups}
 

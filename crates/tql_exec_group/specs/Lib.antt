@@ -1,6 +1,4 @@
 pub mod Begun
-pub mod Folded
-pub mod Folds
 pub mod Grouped
 pub mod Operands
 pub mod Places

@@ -2,7 +2,7 @@
 use Rattle.std.proofs.Common.{◌<◌, ◌∙◌, ◌∷◌, ◌++◌, [], ap, arith, length, refl, subst, sym}
 use Rattle.std.proofs.lemmas.List.{append-nil, append_assoc, take_all}
 use Rattle.tql_exec_group.specs.Begun.{Begins}
-use Rattle.tql_exec_group.specs.Folded.{HasFolded}
+use Rattle.tql_exec_fold.specs.Folded.{HasFolded}
 use Rattle.tql_exec_group.proofs.Turns.{one_begun}
 use Rattle.tql_exec_group.proofs.grouping.begin_group.Goals as goal
 

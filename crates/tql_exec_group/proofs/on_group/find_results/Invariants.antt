@@ -2,7 +2,7 @@ use Rattle.std.proofs.Common.{◌≡◌, ◌≤◌, length, take}
 use Rattle.std.specs.Prelude.{List}
 use Rattle.tql_spec.specs.Datum.{Row}
 use Rattle.tql_value.specs.Views.{row_of}
-use Rattle.tql_exec_group.specs.Folded.{HaveFolded}
+use Rattle.tql_exec_fold.specs.Folded.{HaveFolded}
 use Rattle.tql_exec_group.specs.Results.{AreResults, IsKeyOf}
 use Rattle.tql_exec_group.specs.Steps.{aggregates_in}
 use Rattle.tql_exec_group.proofs.on_group.find_results.Given as goal

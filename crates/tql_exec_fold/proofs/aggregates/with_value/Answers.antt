@@ -2,9 +2,9 @@
 use Rattle.std.proofs.Common.{arith, pos, ◌≤ℤ◌, ◌<ℤ◌, ◌≡◌, ◌^◌, ◌∙◌}
 use Rattle.std.proofs.lemmas.Int.{ints}
 use Rattle.std.specs.Prelude.{neg_ℤ}
-use Rattle.tql_exec_group.specs.Folds.{so_far}
-use Rattle.tql_exec_group.proofs.Bests.{next_within, unwrapped}
-use Rattle.tql_exec_group.proofs.aggregates.with_value.Goals as goal
+use Rattle.tql_exec_fold.specs.Folds.{so_far}
+use Rattle.tql_exec_fold.proofs.Bests.{next_within, unwrapped}
+use Rattle.tql_exec_fold.proofs.aggregates.with_value.Goals as goal
 
 pub returns-in-Int-clause-within : goal.returns-in-Int-clause-within
 returns-in-Int-clause-within c = λ n h.

@@ -13,7 +13,7 @@ use Rattle.std.proofs.lemmas.List.Sorted.{ranks_by}
 use Rattle.tql_spec.specs.Datum.{Datum, order, is_null, fits, Row}
 use Rattle.tql_spec.specs.Expression.{Expr, Function, Aggregate, eval, best, present, aggregate}
 use Rattle.tql_spec.proofs.Orders.{order-total}
-use Rattle.tql_exec_group.specs.Folds.{is_better, the_better, so_far, IsWithin, of_present}
+use Rattle.tql_exec_fold.specs.Folds.{is_better, the_better, so_far, IsWithin, of_present}
 
 -- ---- the least or greatest value
 

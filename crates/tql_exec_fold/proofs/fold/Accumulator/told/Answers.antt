@@ -1,7 +1,7 @@
 -- A result that is out of range, and a function over the values of all rows.
 use Rattle.std.proofs.Common.{sym}
-use Rattle.tql_exec_group.proofs.Accumulators.{told_by, told_out}
-use Rattle.tql_exec_group.proofs.fold.Accumulator.told.Goals as goal
+use Rattle.tql_exec_fold.proofs.Accumulators.{told_by, told_out}
+use Rattle.tql_exec_fold.proofs.fold.Accumulator.told.Goals as goal
 
 pub returns-then-self : goal.returns-then-self
 returns-then-self c = λ t rows row h. sym (told_out t c.args.which c.args.self.now rows row c.if-self.true h)

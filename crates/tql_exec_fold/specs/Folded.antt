@@ -10,8 +10,8 @@ use Rattle.tql_expr.specs.Trees.{plain_function}
 use Rattle.tql_expr.specs.declared.terms.Aggregate.{Aggregate}
 use Rattle.tql_expr.specs.declared.terms.Aggregate.TheVariants.{Rows, Over}
 use Rattle.tql_expr.specs.declared.terms.Terms.{Terms}
-use Rattle.tql_exec_group.specs.Folds.{is_better, of_present, sum_behind}
-use Rattle.tql_exec_group.specs.declared.fold.Accumulator.{Accumulator}
+use Rattle.tql_exec_fold.specs.Folds.{is_better, of_present, sum_behind}
+use Rattle.tql_exec_fold.specs.declared.fold.Accumulator.{Accumulator}
 
 -- this value if it is not null, and these
 abbrev pub after : Datum → List Datum → List Datum

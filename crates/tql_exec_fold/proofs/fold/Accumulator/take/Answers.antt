@@ -3,8 +3,8 @@ use Rattle.std.proofs.Common.{refl}
 use Rattle.std.specs.Prelude.{nat_eq}
 use Rattle.tql_value.specs.Views.{datum_of_view}
 use Rattle.tql_exec_join.specs.Tuples.{tuple_row}
-use Rattle.tql_exec_group.proofs.Accumulators.{adds_value, leaves_range, stays_out}
-use Rattle.tql_exec_group.proofs.fold.Accumulator.take.Goals as goal
+use Rattle.tql_exec_fold.proofs.Accumulators.{adds_value, leaves_range, stays_out}
+use Rattle.tql_exec_fold.proofs.fold.Accumulator.take.Goals as goal
 
 pub returns-then-self : goal.returns-then-self
 returns-then-self c =

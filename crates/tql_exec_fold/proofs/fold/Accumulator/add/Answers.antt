@@ -1,8 +1,8 @@
 -- The better of the best value so far and one more.
 use Rattle.std.specs.Prelude.{true, false}
 use Rattle.tql_value.specs.Views.{datum_of_value, datum_of_view}
-use Rattle.tql_exec_group.proofs.Accumulators.{one_kept}
-use Rattle.tql_exec_group.proofs.fold.Accumulator.add.Goals as goal
+use Rattle.tql_exec_fold.proofs.Accumulators.{one_kept}
+use Rattle.tql_exec_fold.proofs.fold.Accumulator.add.Goals as goal
 
 pub returns-in_ok-keep_better-in-Min-clause-folds : goal.returns-in_ok-keep_better-in-Min-clause-folds
 returns-in_ok-keep_better-in-Min-clause-folds c = λ vs.

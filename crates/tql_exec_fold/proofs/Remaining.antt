@@ -6,7 +6,7 @@ use Rattle.std.proofs.lemmas.List.{drop_more}
 use Rattle.tql_spec.specs.Words.{◌>>=◌, with_front, map_all}
 use Rattle.tql_spec.specs.Datum.{Datum, Row}
 use Rattle.tql_spec.specs.Expression.{Expr, eval, present}
-use Rattle.tql_exec_group.specs.Folds.{of_present}
+use Rattle.tql_exec_fold.specs.Folds.{of_present}
 
 front_first : {A B : Type 0} (v : A) (rest : Option (List A)) (h : List A → Option B)
     → with_front (Some v) rest >>= h ≡ rest >>= λ vs. h (v ∷ vs)

@@ -20,11 +20,11 @@ use Rattle.tql_expr.specs.declared.terms.Aggregate.{Aggregate}
 use Rattle.tql_expr.specs.declared.terms.Aggregate.TheVariants.{Rows, Over}
 use Rattle.tql_expr.specs.declared.terms.ExprId.{ExprId}
 use Rattle.tql_expr.specs.declared.terms.Terms.{Terms}
-use Rattle.tql_exec_group.specs.Folds.{is_better, of_present, sum_behind, the_better}
-use Rattle.tql_exec_group.specs.Folded.{after, rest_of, HasFolded, IsOut, Takes}
-use Rattle.tql_exec_group.specs.declared.fold.Accumulator.{Accumulator}
-use Rattle.tql_exec_group.proofs.Bests.{one_better, over_few, too_great}
-use Rattle.tql_exec_group.proofs.Remaining.{more_present}
+use Rattle.tql_exec_fold.specs.Folds.{is_better, of_present, sum_behind, the_better}
+use Rattle.tql_exec_fold.specs.Folded.{after, rest_of, HasFolded, IsOut, Takes}
+use Rattle.tql_exec_fold.specs.declared.fold.Accumulator.{Accumulator}
+use Rattle.tql_exec_fold.proofs.Bests.{one_better, over_few, too_great}
+use Rattle.tql_exec_fold.proofs.Remaining.{more_present}
 
 -- ---- whatever rows follow
 

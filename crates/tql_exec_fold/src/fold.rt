@@ -2,7 +2,7 @@
 ghost use Rattle.std.specs.Prelude.{◌≡◌, ◌+◌, ◌<◌, ◌≤◌, ◌^◌, MatchResult, if◌then◌else◌};
 ghost use Rattle.tql_spec.specs.Datum as pure;
 ghost use Rattle.tql_value.specs.Views.{datum_of_value, datum_of_view};
-ghost use Rattle.tql_exec_group.specs.Folds.{IsWithin, the_better};
+ghost use Rattle.tql_exec_fold.specs.Folds.{IsWithin, the_better};
 
 use crate::aggregates::{is_beaten, summed, with_value};
 use tql_exec_join::tuple::Tuple;
@@ -87,10 +87,10 @@ impl Accumulator {
     ghost use Rattle.tql_expr.specs.declared.terms.Aggregate.{Aggregate};
     ghost use Rattle.tql_expr.specs.declared.terms.Terms.{Terms};
     ghost use Rattle.tql_exec_join.specs.Tuples.{tuple_row};
-    ghost use Rattle.tql_exec_group.specs.Folded.{rest_of, HasFolded, Takes};
+    ghost use Rattle.tql_exec_fold.specs.Folded.{rest_of, HasFolded, Takes};
 
     /// Returns the accumulator of no rows.
-    pub(crate) fn new() -> Accumulator
+    pub fn new() -> Accumulator
         ensures { (t : Terms) (which : Aggregate) → HasFolded t which result [] }
     {
         Accumulator {
@@ -124,7 +124,7 @@ impl Accumulator {
 
     /// Takes one more row. The operand is evaluated once. Remembers that it is out of range, or that there are more
     /// rows than 64 bits can count. The only error is a refused allocation.
-    pub(crate) fn take(
+    pub fn take(
         &mut self,
         memory: Memory,
         terms: &Terms,
@@ -165,7 +165,7 @@ impl Accumulator {
 
     /// Returns the result of the aggregate over the rows so far, or `Range` if it or, on some row, the operand is out
     /// of range. The result over 2^63 rows or more is out of range. Makes no allocation.
-    pub(crate) fn told(&self, which: Aggregate) -> Result<View<'_>, Range>
+    pub fn told(&self, which: Aggregate) -> Result<View<'_>, Range>
         ensures { (t : Terms) (rows : List pure.Row) (row : pure.Row) → HasFolded t which self.now rows
             → outcome result ≡ bound.eval rows row (tree_of t which) }
     {

@@ -2,7 +2,7 @@
 //! `<aggregate function>`).
 ghost use Rattle.std.specs.Prelude.{◌≡◌, ℕ, ◌^◌, ◌+◌, [], if◌then◌else◌};
 ghost use Rattle.tql_value.specs.Views.{datum_of_view, outcome};
-ghost use Rattle.tql_exec_group.specs.Folds.{added, IsWithin, sum_behind, the_better};
+ghost use Rattle.tql_exec_fold.specs.Folds.{added, IsWithin, sum_behind, the_better};
 
 use tql_value::arithmetic::Range;
 use tql_value::comparison::order;
