@@ -1,3 +1,5 @@
+pub mod FarRows
+pub mod Dropped
 pub mod OverBags
 pub mod Begun
 pub mod Early

@@ -2,3 +2,4 @@ pub mod Steps
 pub mod Keys
 pub mod Levels
 pub mod Counts
+pub mod Sides

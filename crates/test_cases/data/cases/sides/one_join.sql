@@ -1,0 +1,33 @@
+-- cases: in-turn
+-- Conjuncts over one side of a join, in ON and in WHERE, by which rows are dropped before they are paired. From sqlite3.
+CREATE TABLE t (a INTEGER, b INTEGER);
+INSERT INTO t VALUES (1, 1), (2, 1), (3, 2), (4, NULL), (NULL, 1), (NULL, NULL), (5, 3), (2, 3);
+SELECT COUNT(*) AS n FROM t x JOIN t y ON x.a < y.a AND x.b = 1;
+SELECT COUNT(*) AS n FROM t x JOIN t y ON x.a < y.a AND y.b = 1;
+SELECT COUNT(*) AS n FROM t x LEFT JOIN t y ON x.a < y.a AND y.b = 1;
+SELECT COUNT(*) AS n FROM t x, t y WHERE x.a < y.a AND y.b = 1;
+SELECT COUNT(*) AS n FROM t x JOIN t y ON x.a < y.a WHERE y.b = 1;
+SELECT x.a AS p, y.a AS q FROM t x JOIN t y ON x.a < y.a AND x.b = 1;
+SELECT x.a AS p, y.a AS q FROM t x JOIN t y ON y.b = 1 AND x.a < y.a;
+SELECT x.a AS p, x.b AS q, y.a AS r FROM t x LEFT JOIN t y ON x.a < y.a AND y.b = 1;
+SELECT x.a AS p, x.b AS q, y.a AS r FROM t x LEFT JOIN t y ON x.a < y.a AND x.b = 1;
+SELECT x.a AS p, x.b AS q, y.a AS r FROM t x LEFT JOIN t y ON x.a < y.a AND x.b = 1 AND y.b = 3;
+SELECT x.a AS p, y.a AS q FROM t x, t y WHERE x.a < y.a AND y.b = 1 AND x.b IS NULL;
+SELECT x.a AS p, y.a AS q FROM t x JOIN t y ON x.a < y.a WHERE y.b = 1 AND x.b = 1;
+SELECT x.a AS p, y.a AS q FROM t x LEFT JOIN t y ON x.a < y.a WHERE y.b = 1;
+SELECT x.a AS p, y.a AS q FROM t x LEFT JOIN t y ON x.a < y.a WHERE y.b IS NULL;
+SELECT x.a AS p, y.a AS q FROM t x LEFT JOIN t y ON x.a < y.a AND y.b = 3 WHERE y.b IS NULL;
+SELECT x.a AS p, y.a AS q FROM t x JOIN t y ON x.a < y.a AND (y.b = 1 OR y.a = 5) AND NOT x.b = 3;
+SELECT x.a AS p, y.a AS q FROM t x JOIN t y ON x.a < y.a AND (y.b = 1 OR x.b = 2);
+SELECT x.a AS p, y.a AS q FROM t x CROSS JOIN t y WHERE x.a < y.a AND y.b = 2;
+SELECT x.a AS p, y.a AS q FROM t x CROSS JOIN t y WHERE x.b = 2 AND y.b = 3 AND x.a < y.a;
+SELECT x.a AS p, y.a AS q FROM t x JOIN t y ON x.a < y.a AND 1 = 2;
+SELECT x.a AS p, y.a AS q FROM t x LEFT JOIN t y ON x.a < y.a AND 1 = 2;
+SELECT x.a AS p, y.a AS q FROM t x JOIN t y ON x.a < y.a AND 1 = 1 AND y.b = 2;
+SELECT x.a AS p, y.a AS q FROM t x LEFT JOIN t y ON 1 = 1 AND y.b = 2;
+SELECT x.a AS p, y.a AS q FROM t x JOIN t y ON x.b = y.b AND y.a = 2;
+SELECT x.a AS p, y.a AS q FROM t x JOIN t y ON x.b = y.b AND x.a = 2 AND y.a < 5;
+SELECT x.a AS p, y.a AS q FROM t x LEFT JOIN t y ON x.b = y.b AND y.a = 2;
+SELECT x.a AS p, y.a AS q FROM t x JOIN t y ON x.a < y.a AND y.b = 7;
+SELECT x.a AS p, y.a AS q FROM t x JOIN t y ON x.a < y.a AND x.b = 7;
+SELECT x.a AS p, y.a AS q FROM t x LEFT JOIN t y ON x.a < y.a AND y.b = 7 WHERE x.b = 1;
