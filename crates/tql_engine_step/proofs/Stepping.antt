@@ -13,7 +13,7 @@ use Rattle.tql_result.specs.Replies.{reply_of}
 use Rattle.tql_result.specs.declared.reply.Reply.{Reply}
 use Rattle.tql_engine_state.specs.Stands.{EngineModel, StandsFor}
 use Rattle.tql_engine_state.specs.Effects.{Does, Refuses, DoesStep, reply_by}
-use Rattle.tql_engine_step.specs.Sense.{ReadsAs}
+use Rattle.tql_engine_read.specs.Sense.{ReadsAs}
 use Rattle.tql_run.specs.Responding as responding
 
 -- ---- answers

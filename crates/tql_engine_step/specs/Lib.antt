@@ -1,3 +1,1 @@
-pub mod Sense
 pub mod HoldPoints
-pub mod ColumnKinds

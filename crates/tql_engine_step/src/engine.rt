@@ -1,29 +1,23 @@
 //! The engine: its state, and its reply to a statement.
-ghost use Rattle.std.specs.Prelude.{◌≡◌, ◌<◌, length, slice_get, IfOk, IsFalse, IsTrue, Some};
+ghost use Rattle.std.specs.Prelude.{◌≡◌, IfOk, IsFalse, IsTrue};
 
 mod changes;
 mod clock;
-mod column_kinds;
 mod creation;
 mod definitions;
 mod dropping;
-mod faults;
 mod horizon;
-mod messages;
-mod names;
-mod plans;
 mod queries;
 mod reading;
 mod transactions;
 
-use crate::sense::read_statement;
 use std::marker::Model;
-use tql_bind::binder::bind;
-use tql_bind::limits::Limits;
 use tql_bound::bound::Bound;
 use tql_bound::reader::Reader;
-use tql_catalog::catalog::{Catalog, Table};
+use tql_catalog::catalog::Catalog;
 use tql_detail::detail::Detail;
+use tql_engine_read::held::Held;
+use tql_engine_read::sense::read_statement;
 use tql_index::index::IntervalIndex;
 use tql_memory::Memory;
 use tql_result::answer::Answer;
@@ -31,9 +25,6 @@ use tql_result::reply::Reply;
 use tql_run::responder::Responder;
 use tql_store::store::Store;
 use tql_syntax::ending::{TransactionEnd, transaction_end};
-use tql_syntax::text::read_text;
-use tql_syntax_fault::told::{depth_detail, syntax_detail};
-use tql_syntax_fault::unfinished::unfinished_detail;
 use tql_syntax_tree::statement::Statement;
 use tql_value::calendar::FIRST_MOMENT;
 use tql_value::refusal::Refusal;
@@ -94,14 +85,12 @@ impl<I: IntervalIndex> Engine<I> {
     ghost use Rattle.std.specs.Prelude.{ℕ};
     ghost use Rattle.std.specs.List.{list_all};
     ghost use Rattle.tql_spec.specs.Definition.{TableDef};
-    ghost use Rattle.tql_spec.specs.Machine.{State, CreateTable, DropTable, limits_of, new_state, step};
+    ghost use Rattle.tql_spec.specs.Machine.{State, CreateTable, DropTable, new_state, step};
     ghost use Rattle.tql_spec.specs.Run.{Answers, finished, respond};
     ghost use Rattle.tql_spec.specs.Syntax.{is_too_wide};
     ghost use Rattle.tql_spec.specs.TypingLaws.{IsTypedBound};
     ghost use Rattle.tql_syntax_tree.specs.Statements.{statement_of};
     ghost use Rattle.tql_run.specs.Responding.{Answered};
-    ghost use Rattle.tql_bind.specs.Limited.{bind_under};
-    ghost use Rattle.tql_bind_table.specs.Binds.{Binds};
     ghost use Rattle.tql_bound.specs.Bounds.{IsSound, bound_of};
     ghost use Rattle.tql_catalog.specs.Tables.{can_have, definitions_of};
     ghost use Rattle.tql_result.specs.Replies.{reply_of, IsPrintableReply};
@@ -127,12 +116,17 @@ impl<I: IntervalIndex> Engine<I> {
         }
     }
 
-    /// Returns the table at this index.
-    fn table_at(&self, place: usize) -> &Table
-        requires { place < length self.now.tables }
-        ensures { slice_get self.now.tables place ≡ Some result.now }
+    /// Returns the parts of the engine, by reference, for what changes nothing.
+    fn held(&self) -> Held<'_, I>
+        ensures { result ≡ self.now }
     {
-        self.tables.table(place)
+        Held {
+            memory: self.memory,
+            tables: &self.tables,
+            store: &self.store,
+            next: self.next,
+            readers: &self.readers,
+        }
     }
 
     /// Runs a bound statement, which the transaction, the clock, the horizon and open readers allow. A refused
@@ -152,31 +146,16 @@ impl<I: IntervalIndex> Engine<I> {
             Bound::Insert(insertion) => self.insert(&insertion),
             Bound::InsertFrom(insertion) => self.insert_from(&insertion),
             Bound::Modify(modification) => self.modify(&modification),
-            Bound::AnswerQuery(query) => self.answer_query(&query),
+            Bound::AnswerQuery(query) => self.held().answer_query(&query),
             Bound::SetClock(moment) => self.at(moment),
             Bound::Prune(moment) => Ok(self.prune(moment)),
             Bound::OpenReader(name) => self.open_reader(name),
-            Bound::Read(read) => self.read(&read),
+            Bound::Read(read) => self.held().read(&read),
             Bound::CloseReader(name) => Ok(self.close_reader(&name)),
             Bound::Start => Ok(self.start()),
             Bound::Commit => self.commit(),
             Bound::Rollback => self.rollback(),
         }
-    }
-
-    /// Binds a statement. Refused for its first fault of names, kinds, forms and literals, of the horizon and of open
-    /// readers, or for memory.
-    fn bound(&self, memory: Memory, statement: &Statement<'_>) -> Result<Bound, Refusal>
-        requires narrow { IsFalse (is_too_wide (statement_of statement.now)) }
-        ensures binds { (s : State) → StandsFor self.now s → Binds bound_of
-            (bind_under (limits_of s) s.definitions (statement_of statement.now)) result }
-        ensures sound { IfOk result (IsSound (definitions_of self.now.tables)) }
-    {
-        let limits = Limits {
-            horizon: self.store.horizon(),
-            readers: &self.readers,
-        };
-        bind(memory, &self.tables, statement, &limits)
     }
 
     /// Runs a statement. A refused statement changes nothing.
@@ -186,10 +165,10 @@ impl<I: IntervalIndex> Engine<I> {
             → DoesStep self.new s result (respond s (statement_of statement.now)) }
         ensures printable { IfOk result (λ reply. IsPrintableReply (reply_of reply)) }
     {
-        if let Some(fault) = self.state_fault(statement)? {
+        if let Some(fault) = self.held().state_fault(statement)? {
             return Err(fault);
         }
-        match self.bound(self.memory, statement) {
+        match self.held().bound(self.memory, statement) {
             Ok(bound) => self.perform(bound),
             Err(fault) => Err(fault),
         }
@@ -260,33 +239,7 @@ impl<I: IntervalIndex> Responder for Engine<I> {
     }
 
     fn detail(&self, text: &[u8], refusal: Refusal) -> Option<Detail> {
-        match refusal {
-            Refusal::NotAStatement => syntax_detail(self.memory, text),
-            Refusal::NestedTooDeep => depth_detail(self.memory, text),
-            Refusal::UnfinishedStatement => unfinished_detail(self.memory, text),
-            Refusal::TableUnknownOrAlreadyThere
-            | Refusal::NameUnknownAmbiguousOrRepeated
-            | Refusal::TypesDoNotFit
-            | Refusal::FormNotAllowedHere
-            | Refusal::TableIsReferenced
-            | Refusal::TooManyTablesOrReaders
-            | Refusal::PortionNotRising => self.name_detail(text),
-            Refusal::ValueOutOfRange => match self.name_detail(text) {
-                Some(detail) => Some(detail),
-                None => self.row_detail(text, refusal),
-            },
-            Refusal::NullNotAllowed
-            | Refusal::PeriodNotRising
-            | Refusal::CheckFailed
-            | Refusal::DuplicateKey
-            | Refusal::ReferenceNotMet => self.row_detail(text, refusal),
-            Refusal::NotInThisTransactionState
-            | Refusal::MomentNotAllowed
-            | Refusal::BeforeTheHorizon
-            | Refusal::ReaderNotUsable
-            | Refusal::ReadersAreOpen => self.state_detail(text, refusal),
-            _ => None,
-        }
+        self.held().detail(text, refusal)
     }
 
     ghost refuses = { responds_refuse };

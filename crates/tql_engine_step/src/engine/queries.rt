@@ -1,77 +1,30 @@
-//! SELECT, and the rows that a query answers.
+//! What hosts may ask about a query before it runs: the types of its columns, and its plan. Nothing changes.
 use crate::engine::Engine;
-use tql_bound::query::BoundQuery;
-use tql_exec::running::{run, unordered_rows};
 use tql_index::index::IntervalIndex;
 use tql_memory::Memory;
-use tql_plan::planner::plan;
-use tql_result::reply::Reply;
-use tql_store::snapshot::Snapshot;
 use tql_value::refusal::Refusal;
-use tql_value::value::{ResultTable, Value};
+use tql_value::value::Kind;
 
 impl<I: IntervalIndex> Engine<I> {
-    ghost use Rattle.std.specs.Prelude.{◌≡◌, map, string_bytes, IfOk};
-    ghost use Rattle.tql_spec.specs.Machine as machine;
-    ghost use Rattle.tql_spec.specs.Machine.{State, bag_of, step};
-    ghost use Rattle.tql_spec.specs.Query.{answer};
-    ghost use Rattle.tql_bound.specs.Placed.{IsPlacedQuery};
-    ghost use Rattle.tql_bound.specs.Queries.{bound_query_of};
-    ghost use Rattle.tql_catalog.specs.Tables.{definitions_of};
-    ghost use Rattle.tql_exec.specs.Steps.{ordered};
-    ghost use Rattle.tql_exec_join.specs.Bags.{GivesBag};
-    ghost use Rattle.tql_expr.specs.Evaluated.{Evaluated};
-    ghost use Rattle.tql_value.specs.Views.{rows_of};
-    ghost use Rattle.tql_engine_state.specs.Allowed.{AsksWithin};
-    ghost use Rattle.tql_engine_state.specs.Showing.{CanAnswer, Shows};
+    ghost use Rattle.tql_spec.specs.Machine.{State};
+    ghost use Rattle.tql_engine_read.specs.ColumnKinds.{TextTellsKinds};
     ghost use Rattle.tql_engine_state.specs.Stands.{StandsFor};
-    ghost use Rattle.tql_engine_state.specs.Effects.{DoesStep};
 
-    /// Returns the rows that a query answers, in any order. Refused if an evaluation that is reached overflows 64 bits,
-    /// or if an allocation is refused.
-    pub(super) fn unordered_rows(
-        &self,
-        query: &BoundQuery,
-    ) -> Result<Vec<Vec<Value, Memory>, Memory>, Refusal>
-        requires placed { IsPlacedQuery (definitions_of self.now.tables) (bound_query_of query.now) }
-        requires within { AsksWithin self.now (bound_query_of query.now) }
-        ensures { (s : State) → StandsFor self.now s
-            → GivesBag (λ rows. rows_of rows.items) (answer (bag_of s) (bound_query_of query.now)) result }
+    /// Returns the kinds of the columns that the query of this text answers, from the left: integer, text, date,
+    /// timestamp. A READ counts as a query. None for any other statement, since it answers no rows.
+    ///
+    /// Refused as `step` would refuse the text before it runs, out of memory included. A query that is not refused here
+    /// may still be refused when it runs, as out of range. Changes nothing.
+    pub fn column_kinds(&self, query: &[u8]) -> Result<Option<Vec<Kind, Memory>>, Refusal>
+        ensures { (s : State) → StandsFor self.now s → TextTellsKinds s query.now result }
     {
-        let plan = plan(self.memory, &self.tables, query)?;
-        let shown = Snapshot::now(&self.store);
-        unordered_rows(self.memory, &shown, &plan)
+        self.held().column_kinds(query)
     }
 
-    /// Returns the rows that a query answers from a snapshot of the store, in the order in which they are printed, with
-    /// their headings.
-    pub(super) fn answered(
-        &self,
-        shown: &Snapshot<'_, I>,
-        query: &BoundQuery,
-    ) -> Result<ResultTable, Refusal>
-        requires placed { IsPlacedQuery (definitions_of self.now.tables) (bound_query_of query.now) }
-        requires can { CanAnswer self.now.tables shown.now (bound_query_of query.now) }
-        ensures rows { (s : State) → Shows self.now.tables shown.now s → Evaluated (λ rows. rows_of rows.rows.items)
-            (ordered (bound_query_of query.now).ordering (answer (bag_of s) (bound_query_of query.now))) result }
-        ensures headings { IfOk result
-            (λ rows. map string_bytes rows.headings.items ≡ (bound_query_of query.now).headings) }
-    {
-        let plan = plan(self.memory, &self.tables, query)?;
-        run(self.memory, shown, &plan)
-    }
-
-    /// Runs a SELECT.
-    pub(super) fn answer_query(&self, query: &BoundQuery) -> Result<Reply, Refusal>
-        requires placed { IsPlacedQuery (definitions_of self.now.tables) (bound_query_of query.now) }
-        requires within { AsksWithin self.now (bound_query_of query.now) }
-        ensures { (s : State) → StandsFor self.now s
-            → DoesStep self.now s result (step s (machine.AnswerQuery (bound_query_of query.now))) }
-    {
-        let shown = Snapshot::now(&self.store);
-        match self.answered(&shown, query) {
-            Ok(rows) => Ok(Reply::Table(rows)),
-            Err(refusal) => Err(refusal),
-        }
+    /// Returns the access paths of a query in words: of a SELECT or a READ, or of the query of an INSERT. None for any
+    /// other text, for one that is refused before it runs, or if an allocation is refused. The allocations that it
+    /// makes do not count against the budget of `Memory`. Changes nothing.
+    pub fn plan_told(&self, text: &[u8]) -> Option<String<Memory>> {
+        self.held().plan_told(text)
     }
 }

@@ -1,10 +1,5 @@
-use Rattle.tql_syntax_tree.specs.Trees.{tree_of}
-use Rattle.tql_engine_step.proofs.ColumnKinds.{says_kinds, unread_kinds}
+use Rattle.tql_engine_step.proofs.Reading.{stands_read}
 use Rattle.tql_engine_step.proofs.engine.Engine.column_kinds.Goals as goal
 
-pub returns-in-Ok : goal.returns-in-Ok
-returns-in-Ok g c s st =
-    says_kinds s c.args.query.now (tree_of c.in-Ok.tree) c.kinds_in.result c.in-Ok.ensures (c.kinds_in.ensures s st)
-
-pub returns-in-Err : goal.returns-in-Err
-returns-in-Err g c s st = unread_kinds s c.args.query.now c.in-Err.refusal c.in-Err.ensures
+pub returns : goal.returns
+returns g c s st = c.column_kinds.ensures s (stands_read _ _ s c.held.ensures st)

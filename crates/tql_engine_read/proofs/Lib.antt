@@ -1,0 +1,5 @@
+pub mod SenseLaws
+pub mod Joining
+pub mod KnownKinds
+pub mod ReaderNames
+pub mod ColumnKinds

@@ -1,0 +1,3 @@
+pub mod Sense
+pub mod Tuples
+pub mod ColumnKinds

@@ -1,0 +1,79 @@
+//! What INSERT, UPDATE and DELETE remove and add.
+ghost use Rattle.std.specs.Prelude.{◌≡◌, ◌<◌, length, slice_get, Some};
+
+use crate::held::Held;
+use tql_bound::change::{Insertion, Modification, QueryInsertion};
+use tql_dml::insertion::{insert_rows, insert_tuples};
+use tql_dml::modification::{modify, modify_current};
+use tql_index::index::IntervalIndex;
+use tql_plan_access::choosing::change_access;
+use tql_store::store::Delta;
+use tql_value::refusal::Refusal;
+use tql_value::when::When;
+
+impl<I: IntervalIndex> Held<'_, I> {
+    ghost use Rattle.tql_spec.specs.Machine.{State};
+    ghost use Rattle.tql_bound.specs.Placed.{IsPlacedQuery};
+    ghost use Rattle.tql_bound.specs.Queries.{bound_query_of};
+    ghost use Rattle.tql_catalog.specs.declared.catalog.Table.{Table};
+    ghost use Rattle.tql_catalog.specs.Tables.{definitions_of};
+    ghost use Rattle.tql_engine_read.specs.Tuples.{AddsTuples};
+    ghost use Rattle.tql_engine_state.specs.Adding.{Adds};
+    ghost use Rattle.tql_engine_state.specs.Modifying.{Makes};
+    ghost use Rattle.tql_engine_state.specs.Stands.{StandsFor};
+    ghost use Rattle.tql_engine_state.specs.Allowed.{AsksWithin};
+
+    /// Returns the change that adds the tuples of an INSERT.
+    pub fn tuples_delta(&self, insertion: &Insertion) -> Result<Delta, Refusal>
+        requires { insertion.now.table < length self.now.tables }
+        ensures { (p : Table) → slice_get self.now.tables insertion.now.table ≡ Some p
+            → AddsTuples p insertion.now result }
+    {
+        insert_tuples(self.memory, self.table_at(insertion.table), insertion)
+    }
+
+    /// Returns the change that adds the rows of a query. The query is answered first, so it does not see them. Its rows
+    /// are not sorted, since an INSERT does the same in any order.
+    pub fn query_delta(&self, insertion: &QueryInsertion) -> Result<Delta, Refusal>
+        requires within { insertion.now.table < length (definitions_of self.now.tables) }
+        requires placed { IsPlacedQuery (definitions_of self.now.tables) (bound_query_of insertion.now.query) }
+        requires asked { AsksWithin self.now (bound_query_of insertion.now.query) }
+        ensures { (s : State) (p : Table) → StandsFor self.now s
+            → slice_get self.now.tables insertion.now.table ≡ Some p → Adds s p insertion.now result }
+    {
+        let rows = match self.unordered_rows(&insertion.query) {
+            Ok(rows) => rows,
+            Err(refusal) => return Err(refusal),
+        };
+        let table = self.table_at(insertion.table);
+        insert_rows(self.memory, table, &insertion.columns, rows)
+    }
+
+    /// Returns the change that an UPDATE or DELETE makes to the current rows of its table. It reads only the rows of
+    /// the access path: of the others WHERE is not true, or they share no point with the portion. If the path is all
+    /// rows, they are read where they are stored, and only what is touched takes memory.
+    pub fn delta_of(&self, modification: &Modification) -> Result<Delta, Refusal>
+        requires { modification.now.table < length self.now.tables }
+        ensures { (p : Table) → slice_get self.now.tables modification.now.table ≡ Some p
+            → Makes self.now.store p modification.now result }
+    {
+        let table = self.table_at(modification.table);
+        let access = change_access(
+            self.memory,
+            &table.definition,
+            &modification.terms,
+            &modification.conjuncts,
+            modification.portion,
+        )?;
+        match access.sought() {
+            None => {
+                let current = self.store.current(table.id);
+                modify_current(self.memory, table, current, modification)
+            }
+            Some(sought) => {
+                let seen = self.store.look(table.id, When::Now, Some(sought))?;
+                modify(self.memory, table, &seen, modification)
+            }
+        }
+    }
+}
