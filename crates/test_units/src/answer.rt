@@ -1,7 +1,7 @@
 //! The answer to a line, with each allocation made to fail, in order.
 use crate::line::Line;
 use crate::stop::Stop;
-use crate::{calendar, indexes, lexer, periods, replies, rows, values};
+use crate::{calendar, indexes, lexer, periods, replies, values};
 use std::alloc::AllocError;
 use tql_memory::{Memory, memory};
 use tql_value::refusal::Refusal;
@@ -14,7 +14,6 @@ pub enum Subject {
     Lexer,
     Periods,
     Replies,
-    Rows,
     Values,
 }
 
@@ -29,7 +28,6 @@ fn answer(memory: Memory, subject: Subject, line: &Line<'_>, out: &mut String) -
         Subject::Lexer => lexer::answer(memory, line, out),
         Subject::Periods => periods::answer(memory, line, out),
         Subject::Replies => replies::answer(memory, line, out),
-        Subject::Rows => rows::answer(memory, line, out),
         Subject::Values => values::answer(memory, line, out),
     }
 }

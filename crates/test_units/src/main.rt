@@ -12,7 +12,6 @@ mod line;
 mod parts;
 mod periods;
 mod replies;
-mod rows;
 mod stop;
 mod values;
 
@@ -22,13 +21,12 @@ use std::fs::Files;
 use std::{fs, io};
 
 /// The files and their subjects.
-const FILES: [(&str, Subject); 7] = [
+const FILES: [(&str, Subject); 6] = [
     ("calendar", Subject::Calendar),
     ("indexes", Subject::Indexes),
     ("lexer", Subject::Lexer),
     ("periods", Subject::Periods),
     ("replies", Subject::Replies),
-    ("rows", Subject::Rows),
     ("values", Subject::Values),
 ];
 

@@ -1,11 +1,16 @@
 //! Lines about rows in their packed form.
 use crate::line::Line;
-use crate::parts::{count, view, write_view};
 use crate::stop::Stop;
+use crate::values::{view, write_view};
 use std::alloc::AllocError;
 use tql_memory::Memory;
 use tql_row::row::Row;
 use tql_value::value::{Value, View};
+
+/// Parses a whole number that is not negative.
+fn count(text: &str) -> Result<usize, Stop> {
+    text.parse().ok().ok_or(Stop::Form)
+}
 
 /// Parses values with `, ` between them, or none.
 fn views(memory: Memory, text: &str) -> Result<Vec<View<'_>, Memory>, Stop> {
