@@ -18,7 +18,7 @@ use Rattle.tql_catalog.specs.declared.catalog.Table.{Table}
 use Rattle.tql_dml.specs.Alters as dml
 use Rattle.tql_dml.specs.Alters.{IsVersionOf, conds_in, is_yes, portion_in}
 use Rattle.tql_dml.proofs.Modified.{touches}
-use Rattle.tql_keys.proofs.NamedRows.{store_names}
+use Rattle.tql_key_clashes.proofs.NamedRows.{store_names}
 use Rattle.tql_plan_access.specs.Access.{IsShown, ServesChange}
 use Rattle.tql_plan_access.proofs.Untouched.{IsPassedOver, passed_over, seen_and_unseen, unseen_of, untouched}
 use Rattle.tql_store.proofs.StoreLaws.{answers-found}

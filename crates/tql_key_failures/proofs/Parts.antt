@@ -6,9 +6,9 @@ use Rattle.std.proofs.lemmas.Option.{slice_get-map, slice_get_within, get_or_fro
 use Rattle.tql_spec.specs.Datum.{Row}
 use Rattle.tql_spec.specs.Definition.{TableDef, shown}
 use Rattle.tql_store.specs.Changes.{starting}
-use Rattle.tql_keys.specs.Asked.{new_rows}
-use Rattle.tql_keys.proofs.Positions.{part_in}
-use Rattle.tql_keys.proofs.Stepping.{new_row}
+use Rattle.tql_key_rows.specs.Asked.{new_rows}
+use Rattle.tql_key_rows.proofs.Stepping.{new_row}
+use Rattle.tql_key_clashes.proofs.Positions.{part_in}
 use Rattle.tql_key_failures.specs.declared.failures.ReferenceFailure.{ReferenceFailure}
 
 -- a test of all is a test of the one at an index

@@ -10,11 +10,13 @@ use Rattle.tql_spec.specs.Datum.{Row}
 use Rattle.tql_spec.specs.Definition.{TableDef, Reference, Stamped, period_of, shown}
 use Rattle.tql_spec.specs.Constraint.{ReferenceTestIsRight, reference_holds, is_met, is_met_by, parents_of, shown_rows}
 use Rattle.tql_store.specs.Changes.{starting, rows_after}
-use Rattle.tql_keys.specs.Asked.{IsJudged, row_found, rows_in, new_rows, staying}
-use Rattle.tql_keys.specs.Parents.{any_left, any_with}
-use Rattle.tql_keys.specs.Touched.{tuple, has_tuple, is_touched, with_tuple}
+use Rattle.tql_key_rows.specs.Asked.{row_found, rows_in, new_rows}
+use Rattle.tql_key_rows.specs.Coming.{any_with}
+use Rattle.tql_key_rows.specs.Touched.{tuple, has_tuple, is_touched, with_tuple}
+use Rattle.tql_key_clashes.specs.Named.{IsJudged, staying}
+use Rattle.tql_keys.specs.Parents.{any_left}
 use Rattle.tql_versions.specs.declared.version.Version.{Version}
-use Rattle.tql_keys.proofs.Freely.{any_kept, found_any}
+use Rattle.tql_keys.proofs.Passing.{any_kept, found_any}
 use Rattle.tql_keys.proofs.Gathering.{parents_is}
 use Rattle.tql_keys.proofs.Near.{met_near}
 use Rattle.tql_keys.proofs.RefLaw.{child_joined, child_kept}

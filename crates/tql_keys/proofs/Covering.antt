@@ -10,7 +10,7 @@ use Rattle.tql_spec.specs.Definition.{TableDef, Reference, no_table, period_of}
 use Rattle.tql_spec.specs.Constraint.{ReferenceTestIsRight, covered, held_at, is_met_by, reference_holds}
 use Rattle.tql_spec.specs.Constraint.{ReferenceHolds, parents_of}
 use Rattle.tql_spec.proofs.Members.{by_bool}
-use Rattle.tql_keys.proofs.Bools.{and_yes}
+use Rattle.tql_key_rows.proofs.Bools.{and_yes}
 
 -- ---- a table and a reference with one row, to apply the law to a single period
 

@@ -10,11 +10,11 @@ use Rattle.tql_spec.specs.Constraint.{ReferenceTestIsRight, covered, held_at, pa
 use Rattle.tql_spec.proofs.Members.{by_bool}
 use Rattle.tql_period.specs.Points.{points_of}
 use Rattle.tql_period.specs.declared.period.Period as code
+use Rattle.tql_key_rows.specs.Touched.{tuple, with_tuple}
 use Rattle.tql_keys.specs.Parents.{any_holds}
-use Rattle.tql_keys.specs.Touched.{tuple, with_tuple}
-use Rattle.tql_keys.proofs.Bools.{same_bool}
+use Rattle.tql_key_rows.proofs.Bools.{same_bool}
+use Rattle.tql_key_rows.proofs.Tuples.{match_sym, match_tuple}
 use Rattle.tql_keys.proofs.Covering.{covered_says, covered_if}
-use Rattle.tql_keys.proofs.Tuples.{match_sym, match_tuple}
 
 -- the parents of a child row are the rows with its tuple
 pub parents_is : (f : Reference) (rows : List Row) (r : Row)

@@ -10,10 +10,9 @@ use Rattle.tql_spec.specs.Datum.{Row}
 use Rattle.tql_spec.specs.Definition.{TableDef, Reference}
 use Rattle.tql_spec.proofs.Bags.{same-refl}
 use Rattle.tql_spec.proofs.Members.{both, by_bool}
-use Rattle.tql_keys.specs.Touched.{are_spared, is_child_of, is_first_spared, is_spared}
-use Rattle.tql_keys.specs.Touched.{is_spared_but}
+use Rattle.tql_keys.specs.Spared.{are_spared, is_child_of, is_first_spared, is_spared, is_spared_but}
+use Rattle.tql_key_rows.proofs.Wheres.{all_where}
 use Rattle.tql_keys.proofs.RefLaw.{all_agree}
-use Rattle.tql_keys.proofs.Wheres.{all_where}
 
 and_no : (a : Bool) → a && false ≡ false
 and_no true = refl

@@ -16,14 +16,16 @@ use Rattle.tql_spec.proofs.Members.{both, by_bool}
 use Rattle.tql_spec.proofs.MemberLists.{in_image, in_map, in_left, in_right}
 use Rattle.tql_store.specs.Changes.{starting, rows_after}
 use Rattle.tql_store.specs.StoreModel.{StoreModel, is_among}
-use Rattle.tql_keys.specs.Asked.{IsJudged, current_rows, new_rows, row_named, staying}
-use Rattle.tql_keys.specs.Keeping.{are_kept}
-use Rattle.tql_keys.proofs.Alikes.{AreAlike, alike_itself, matches_alike, met_alike}
+use Rattle.tql_key_rows.specs.Asked.{current_rows, new_rows, row_named}
+use Rattle.tql_key_rows.specs.Keeping.{are_kept}
+use Rattle.tql_key_clashes.specs.Named.{IsJudged, staying}
+use Rattle.tql_key_clashes.proofs.Alikes.{AreAlike, alike_itself, matches_alike}
+use Rattle.tql_key_clashes.proofs.KeptRows.{of_id, of_row}
+use Rattle.tql_key_clashes.proofs.NamedRows.{in_bag, kept_in, store_names}
+use Rattle.tql_keys.proofs.AlikeChildren.{met_alike}
 use Rattle.tql_keys.proofs.Children.{child_after}
 use Rattle.tql_keys.proofs.Covering.{covered_if, covered_says}
-use Rattle.tql_keys.proofs.Freely.{any_kept}
-use Rattle.tql_keys.proofs.KeptRows.{of_id, of_row}
-use Rattle.tql_keys.proofs.NamedRows.{in_bag, kept_in, store_names}
+use Rattle.tql_keys.proofs.Passing.{any_kept}
 
 -- ---- the child table
 

@@ -9,10 +9,10 @@ use Rattle.tql_spec.specs.Constraint.{ReferenceTestIsRight, covered, held_at, is
 use Rattle.tql_spec.specs.Datum.{Row}
 use Rattle.tql_spec.specs.Definition.{TableDef, period_of}
 use Rattle.tql_spec.specs.Period.{Period, Holds, holds, share_a_point}
-use Rattle.tql_keys.specs.Touched.{is_touched}
-use Rattle.tql_keys.proofs.Bools.{and_yes, same_bool}
+use Rattle.tql_key_rows.specs.Touched.{is_touched}
+use Rattle.tql_key_rows.proofs.Bools.{and_yes, same_bool}
 use Rattle.tql_keys.proofs.Covering.{covered_if, covered_says}
-use Rattle.tql_keys.proofs.Freely.{any_kept}
+use Rattle.tql_keys.proofs.Passing.{any_kept}
 
 -- two periods that hold a common point share it
 pub share_if : (x y : Period) (p : ℤ) → holds y p ≡ true → Holds x p → share_a_point y x ≡ true

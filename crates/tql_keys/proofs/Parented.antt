@@ -8,13 +8,15 @@ use Rattle.tql_spec.specs.Datum.{Row}
 use Rattle.tql_spec.specs.Definition.{TableDef, Reference, Stamped, period_of, shown}
 use Rattle.tql_spec.specs.Constraint.{ReferenceTestIsRight, reference_holds, shown_rows}
 use Rattle.tql_store.specs.Changes.{starting, rows_after}
-use Rattle.tql_keys.specs.Asked.{row_found, rows_in, new_rows, staying, IsJudged}
-use Rattle.tql_keys.specs.Named.{of_named, AreNamed}
-use Rattle.tql_keys.specs.Touched.{tuple, is_child_of, is_spared}
+use Rattle.tql_key_rows.specs.Asked.{row_found, rows_in, new_rows}
+use Rattle.tql_key_rows.specs.Touched.{tuple}
+use Rattle.tql_key_clashes.specs.Named.{staying, IsJudged, AreNamed}
+use Rattle.tql_keys.specs.Named.{of_named}
+use Rattle.tql_keys.specs.Spared.{is_child_of, is_spared}
 use Rattle.tql_versions.specs.declared.version.Version.{Version}
+use Rattle.tql_key_clashes.proofs.Freely.{found_all}
 use Rattle.tql_keys.proofs.Children.{all_stay, none_judged}
-use Rattle.tql_keys.proofs.Freely.{found_all}
-use Rattle.tql_keys.proofs.NamedRows.{gone_by_ids}
+use Rattle.tql_keys.proofs.GoneRows.{gone_by_ids}
 use Rattle.tql_keys.proofs.RefLaw.{parent_changed}
 
 -- a test of the child rows that were found is a test of the child rows of the parent row

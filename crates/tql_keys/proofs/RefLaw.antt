@@ -8,10 +8,11 @@ use Rattle.tql_spec.specs.Definition.{TableDef, Reference, Stamped, period_of, s
 use Rattle.tql_spec.specs.Constraint.{ReferenceTestIsRight, match_on, parents_of, has_null, is_met, is_met_by}
 use Rattle.tql_spec.specs.Constraint.{reference_holds, shown_rows}
 use Rattle.tql_spec.proofs.Members.{both, by_bool}
-use Rattle.tql_keys.specs.Touched.{tuple, has_tuple, is_child_of, is_spared, is_touched}
-use Rattle.tql_keys.proofs.Bools.{all_app, all_map, all_same, all_kept, all_swap}
-use Rattle.tql_keys.proofs.Wheres.{all_where}
-use Rattle.tql_keys.proofs.Tuples.{match_tuple}
+use Rattle.tql_key_rows.specs.Touched.{tuple, has_tuple, is_touched}
+use Rattle.tql_keys.specs.Spared.{is_child_of, is_spared}
+use Rattle.tql_key_rows.proofs.Bools.{all_app, all_map, all_same, all_kept, all_swap}
+use Rattle.tql_key_rows.proofs.Wheres.{all_where}
+use Rattle.tql_key_rows.proofs.Tuples.{match_tuple}
 use Rattle.tql_keys.proofs.Covering.{met_by_more}
 use Rattle.tql_keys.proofs.Near.{met_near_all, touched_turned}
 

@@ -1,50 +1,23 @@
 -- Keys and references depend only on the bag of a table's rows.
-use Rattle.std.proofs.Common.{◌≡◌, refl, sym, ap, ◌∙◌, ℕ, zero, suc, Bool, true, cond, List, [], ◌∷◌, ◌++◌, map, arith}
-use Rattle.std.proofs.Common.{false}
-use Rattle.std.specs.Prelude.{◌&&◌, ◌||◌, not, ltb, Option, Some, None, slice_set}
-use Rattle.std.specs.List.{list_all, list_any}
-use Rattle.std.proofs.lemmas.Int.{ints, clamps}
+use Rattle.std.proofs.Common.{◌≡◌, refl, ap, ◌∙◌, ℕ, zero, suc, Bool, true, List, [], ◌∷◌, ◌++◌, map, false}
+use Rattle.std.specs.Prelude.{◌&&◌, ◌||◌, not, Option, Some, None, slice_set}
+use Rattle.std.specs.List.{list_all}
 use Rattle.tql_spec.specs.Bag.{SameBag}
-use Rattle.tql_spec.specs.Constraint.{key_holds, clash, each_table, shown_rows, keys_hold, references_hold}
-use Rattle.tql_spec.specs.Constraint.{reference_to}
+use Rattle.tql_spec.specs.Constraint.{key_holds, each_table, shown_rows, keys_hold, references_hold, reference_to}
 use Rattle.tql_spec.specs.Constraint.{reference_holds, has_null, is_met, is_met_by, covered, held_at, match_on}
 use Rattle.tql_spec.specs.Datum.{Row}
-use Rattle.tql_spec.specs.Definition.{TableDef, Key, Reference, Stamped, no_table, period_of, shown, table_at, place_of}
+use Rattle.tql_spec.specs.Definition.{TableDef, Reference, Stamped, no_table, period_of, shown, table_at, place_of}
 use Rattle.tql_spec.specs.History.{Copy, rows_in}
 use Rattle.tql_spec.specs.Machine.{constraint_faults}
-use Rattle.tql_spec.specs.Period.{Period, holds, share_a_point}
+use Rattle.tql_spec.specs.Period.{Period, holds}
 use Rattle.tql_spec.specs.Refusal.{DuplicateKey, ReferenceNotMet, fault_if}
-use Rattle.tql_spec.proofs.Bags.{same-map, same-filter, same-refl, same-sym}
-use Rattle.tql_spec.proofs.Members.{any-total}
-use Rattle.tql_points.proofs.Pairs.{pairs_by_bag}
-use Rattle.tql_keys.specs.Asked.{keys_hold_of}
-use Rattle.tql_keys.proofs.Bools.{all_same, same_bool}
-use Rattle.tql_keys.proofs.Tuples.{match_sym}
-use Rattle.tql_keys.proofs.Wheres.{all_bag}
-
--- whether some element passes depends only on the bag
-pub any_bag : {A : Type 0} (p : A → Bool) {xs ys : List A} → SameBag xs ys → list_any p xs ≡ list_any p ys
-any_bag p {xs} {ys} h =
-    any-total p xs ∙ ap (ltb 0) (h.totals (λ x. cond (p x) 1 0)) ∙ sym (any-total p ys)
+use Rattle.tql_spec.proofs.Bags.{same-map, same-filter, same-refl}
+use Rattle.tql_key_clashes.specs.Free.{keys_hold_of}
+use Rattle.tql_key_rows.proofs.Bools.{all_same}
+use Rattle.tql_key_rows.proofs.Wheres.{all_bag, any_bag}
+use Rattle.tql_key_clashes.proofs.KeyBags.{key_by_bag}
 
 -- ---- keys
-
-share_turned : (x y : Period) → share_a_point x y ≡ share_a_point y x
-share_turned x y = grind (arith, ints, clamps)
-
--- clashing is symmetric
-pub clash_turned : (d : TableDef) (k : Key) (r s : Row) → clash d k r s ≡ clash d k s r
-clash_turned d k r s =
-    ap (λ b. b && (not k.by_period || share_a_point (period_of d r) (period_of d s)))
-    (match_sym k.columns r k.columns s)
-    ∙ ap (λ b. match_on k.columns s k.columns r && (not k.by_period || b))
-    (share_turned (period_of d r) (period_of d s))
-
--- whether a key holds depends only on the bag of the rows
-pub key_by_bag : (d : TableDef) {xs ys : List Row} → SameBag xs ys → (k : Key) → key_holds d xs k ≡ key_holds d ys k
-key_by_bag d {xs} {ys} h k =
-    same_bool (key_holds d xs k) (key_holds d ys k) (pairs_by_bag (clash d k) (clash_turned d k) xs ys h)
-    (pairs_by_bag (clash d k) (clash_turned d k) ys xs (same-sym h))
 
 keys_by_bag : (d : TableDef) {rows others : List Stamped} → SameBag rows others
     → keys_hold_of d (shown_rows d rows) ≡ keys_hold_of d (shown_rows d others)

@@ -17,9 +17,9 @@ use Rattle.tql_spec.proofs.MemberLists.{in_kept}
 use Rattle.tql_spec.proofs.Members.{both, by_bool}
 use Rattle.tql_catalog.specs.Referring.{referring_to, refers_to}
 use Rattle.tql_keys.specs.Checked.{references_hold_of}
-use Rattle.tql_keys.proofs.Bools.{same_bool}
-use Rattle.tql_keys.proofs.Freely.{some_passes}
-use Rattle.tql_keys.proofs.NamedRows.{kept_in}
+use Rattle.tql_key_rows.proofs.Bools.{same_bool}
+use Rattle.tql_key_clashes.proofs.NamedRows.{kept_in}
+use Rattle.tql_keys.proofs.Passing.{some_passes}
 use Rattle.tql_keys.proofs.RefLaw.{all_agree}
 use Rattle.tql_keys.proofs.WholeCopy.{as_long}
 use Rattle.tql_keys.proofs.WholeReferences.{rows_elsewhere, reference_elsewhere}

@@ -10,9 +10,9 @@ use Rattle.tql_spec.proofs.Members.{both}
 use Rattle.tql_catalog.specs.Tables.{definitions_of}
 use Rattle.tql_catalog.specs.declared.catalog.Table.{Table}
 use Rattle.tql_store.specs.Changes.{rows_after}
-use Rattle.tql_keys.specs.Asked.{keys_hold_of}
+use Rattle.tql_key_clashes.specs.Free.{keys_hold_of}
 use Rattle.tql_keys.specs.Checked.{copy_after}
-use Rattle.tql_keys.proofs.Bools.{and_yes}
+use Rattle.tql_key_rows.proofs.Bools.{and_yes}
 
 -- if a test held of each table, it holds after the replacement exactly if it holds of the new rows
 pub each_set : (test : TableDef → List Row → Bool) (defs : List TableDef) (copy : Copy) (t : ℕ) (rows : List Stamped)

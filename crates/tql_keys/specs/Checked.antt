@@ -16,7 +16,8 @@ use Rattle.tql_store.specs.StoreModel.{StoreModel, has_table}
 use Rattle.tql_value.specs.Refusals.{refusal_of}
 use Rattle.tql_value.specs.declared.refusal.Refusal.{Refusal}
 use Rattle.tql_value.specs.declared.refusal.Refusal.TheVariants.{DuplicateKey, ReferenceNotMet, OutOfMemory}
-use Rattle.tql_keys.specs.Asked.{AreRowsOf, IsJudged, row_named}
+use Rattle.tql_key_rows.specs.Asked.{AreRowsOf, row_named}
+use Rattle.tql_key_clashes.specs.Named.{IsJudged}
 
 -- the tables are in the store
 abbrev pub AreThere : StoreModel → List Table → Type 0

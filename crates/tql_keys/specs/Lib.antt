@@ -1,11 +1,6 @@
-pub mod Asked
 pub mod Checked
-pub mod Coming
-pub mod Keeping
 pub mod Laws
 pub mod Named
 pub mod Parents
 pub mod PointTests
-pub mod Ranks
-pub mod Rising
-pub mod Touched
+pub mod Spared

@@ -1,8 +1,8 @@
 //! Key and reference checks for all tables, after a change to one of them. All keys and references hold before it, so
 //! only rows near the change can break one. A key is tested on the added rows: with each other, and with the unchanged
-//! rows of the same tuple (`keys`). A reference from the table is tested on the added rows, and a reference to it on
-//! the child rows of the removed rows (`references`). Keys are tested first, then the table's own references, then
-//! those of the tables that refer to it. The constraints of other tables are not tested.
+//! rows of the same tuple (`tql_key_clashes`). A reference from the table is tested on the added rows, and a reference
+//! to it on the child rows of the removed rows (`references`). Keys are tested first, then the table's own references,
+//! then those of the tables that refer to it. The constraints of other tables are not tested.
 ghost use Rattle.std.specs.Prelude.{◌≡◌, ◌≢◌, ◌<◌, Bool, true, [], length, List, IfOk, IsTrue, Some, slice_get};
 ghost use Rattle.std.specs.Prelude.{slice_set};
 ghost use Rattle.tql_spec.specs.AtPoints.{table_rows, HoldsAtPoints};
@@ -23,14 +23,14 @@ ghost use Rattle.tql_keys.specs.Checked.{AreThere, AreJudged, IsCopyOf, copy_aft
 ghost use Rattle.tql_keys.specs.Checked.{TellsTests, TellsFirst, TellsAtPoints};
 ghost use Rattle.tql_keys.specs.PointTests.{IsRefusedAsPoints};
 
-use crate::change::{Change, rising};
-use crate::keys::keys_after;
 use crate::references::{child_after, parent_after};
 use std::alloc::AllocError;
 use tql_catalog::catalog::Catalog;
 use tql_catalog::constraint::Reference;
 use tql_catalog::table_def::TableDef;
 use tql_index::index::IntervalIndex;
+use tql_key_clashes::keys::keys_after;
+use tql_key_rows::change::{Change, rising};
 use tql_memory::Memory;
 use tql_store::store::{Delta, Store};
 use tql_value::refusal::Refusal;

@@ -1,3 +1,1 @@
 pub mod Mixtures
-pub mod TestEnds
-pub mod TestWords

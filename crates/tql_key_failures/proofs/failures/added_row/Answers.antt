@@ -3,7 +3,7 @@ use borrow.Author.Tests.{ltb-true}
 use Rattle.std.proofs.Common.{◌≡◌, rules, tests, sym, ap, ◌∙◌, Some, length, refl}
 use Rattle.std.specs.Prelude.{slice_get}
 use Rattle.tql_expr.specs.Shown.{shown_by}
-use Rattle.tql_keys.proofs.Stepping.{new_row}
+use Rattle.tql_key_rows.proofs.Stepping.{new_row}
 use Rattle.tql_key_failures.proofs.Parts.{new_at}
 use Rattle.tql_key_failures.proofs.failures.added_row.Goals as goal
 

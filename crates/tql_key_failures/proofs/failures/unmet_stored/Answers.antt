@@ -1,5 +1,5 @@
 use Rattle.std.proofs.Common.{sym, subst}
-use Rattle.tql_keys.specs.Coming.{TuplesRise}
+use Rattle.tql_key_rows.specs.Coming.{TuplesRise}
 use Rattle.tql_key_failures.proofs.failures.unmet_stored.Goals as goal
 
 pub unmet_among-requires-clause-rise : goal.unmet_among-requires-clause-rise

@@ -11,7 +11,7 @@ use Rattle.tql_catalog.specs.Referring.{referring_to}
 use Rattle.tql_catalog.specs.Tables.{definitions_of}
 use Rattle.tql_store.specs.Changes.{rows_after}
 use Rattle.tql_keys.specs.Checked.{references_hold_of}
-use Rattle.tql_keys.proofs.Stepping.{one_left, none_left}
+use Rattle.tql_key_rows.proofs.Stepping.{one_left, none_left}
 use Rattle.tql_keys.proofs.Touching.{touching_decide}
 use Rattle.tql_keys.proofs.WholeCopy.{as_many}
 use Rattle.tql_keys.proofs.check.references_after.Goals as goal

@@ -7,9 +7,9 @@ use Rattle.tql_catalog.specs.Defined.{is_reference}
 use Rattle.tql_catalog.specs.Definitions.{reference_of}
 use Rattle.tql_catalog.specs.Tables.{definitions_of}
 use Rattle.tql_keys.specs.Checked.{copy_after, has_parent}
+use Rattle.tql_key_rows.proofs.Stepping.{none_left}
+use Rattle.tql_key_clashes.proofs.Positions.{part_in, parts_decide, parts_all}
 use Rattle.tql_keys.proofs.Earlier.{parents_are_earlier}
-use Rattle.tql_keys.proofs.Positions.{part_in, parts_decide, parts_all}
-use Rattle.tql_keys.proofs.Stepping.{none_left}
 use Rattle.tql_keys.proofs.Tested.{reference_in}
 use Rattle.tql_keys.proofs.WholeCopy.{as_many}
 use Rattle.tql_keys.proofs.check.references_of.Goals as goal

@@ -9,9 +9,9 @@ use Rattle.tql_catalog.specs.Tables.{definitions_of}
 use Rattle.tql_store.specs.Changes.{rows_after}
 use Rattle.tql_store.specs.Represents.{Judged}
 use Rattle.tql_store.specs.StoreModel.{is_among}
-use Rattle.tql_keys.specs.Asked.{keys_hold_of}
+use Rattle.tql_key_clashes.specs.Free.{keys_hold_of}
 use Rattle.tql_keys.specs.Checked.{AreJudged, copy_after}
-use Rattle.tql_keys.proofs.NamedRows.{judged_rows}
+use Rattle.tql_keys.proofs.GoneRows.{judged_rows}
 use Rattle.tql_keys.proofs.Sameness.{keys_alike, references_alike}
 use Rattle.tql_keys.proofs.WholeCopy.{keys_told, as_many}
 use Rattle.tql_keys.proofs.check.test.Goals as goal

@@ -2,7 +2,8 @@ use Rattle.std.proofs.Common.{◌≡◌, drop, map}
 use Rattle.std.specs.Prelude.{◌||◌, ℤ}
 use Rattle.tql_expr.specs.Shown.{shown_by}
 use Rattle.tql_value.specs.Views.{datum_of_view}
-use Rattle.tql_keys.specs.Parents.{any_holds, any_with, row_holds}
+use Rattle.tql_key_rows.specs.Coming.{any_with}
+use Rattle.tql_keys.specs.Parents.{any_holds, row_holds}
 use Rattle.tql_keys.proofs.references.add_coming.Given as goal
 
 -- the periods collected so far, with those of the remaining rows, hold what is to be collected

@@ -5,9 +5,9 @@ use Rattle.std.proofs.lemmas.List.{map-append}
 use Rattle.tql_spec.specs.Definition.{Version, shown}
 use Rattle.tql_expr.specs.Shown.{shown_by}
 use Rattle.tql_expr.specs.declared.stored.StoredRow.{StoredRow}
-use Rattle.tql_keys.specs.Asked.{row_found, row_named}
+use Rattle.tql_key_rows.specs.Asked.{row_found, row_named}
 use Rattle.tql_keys.specs.Named.{of_named}
-use Rattle.tql_keys.proofs.Bools.{all_app, and_yes}
+use Rattle.tql_key_rows.proofs.Bools.{all_app, and_yes}
 use Rattle.tql_keys.proofs.references.add_named.Goals as goal
 
 pub returns-in_ok-push : goal.returns-in_ok-push

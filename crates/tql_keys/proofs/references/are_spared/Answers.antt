@@ -6,7 +6,7 @@ use Rattle.tql_catalog.specs.Definitions.{reference_of}
 use Rattle.tql_expr.specs.Shown.{shown_by}
 use Rattle.tql_expr.specs.declared.stored.StoredRow.{StoredRow}
 use Rattle.tql_store.specs.Changes.{rows_after}
-use Rattle.tql_keys.specs.Touched.{are_spared, is_first_spared}
+use Rattle.tql_keys.specs.Spared.{are_spared, is_first_spared}
 use Rattle.tql_keys.proofs.InTurn.{first_left, none_left}
 use Rattle.tql_keys.proofs.references.are_spared.Goals as goal
 

@@ -4,8 +4,9 @@ use Rattle.tql_spec.specs.Definition.{Stamped}
 use Rattle.tql_catalog.specs.Definitions.{reference_of}
 use Rattle.tql_expr.specs.Shown.{shown_by}
 use Rattle.tql_store.specs.Changes.{rows_after}
-use Rattle.tql_keys.specs.Asked.{AreRowsOf, IsJudged, row_named}
-use Rattle.tql_keys.specs.Touched.{are_spared}
+use Rattle.tql_key_rows.specs.Asked.{AreRowsOf, row_named}
+use Rattle.tql_key_clashes.specs.Named.{IsJudged}
+use Rattle.tql_keys.specs.Spared.{are_spared}
 use Rattle.tql_keys.proofs.references.are_spared.Given as goal
 
 -- the result depends on the remaining removed rows

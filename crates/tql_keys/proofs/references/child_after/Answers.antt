@@ -1,7 +1,7 @@
 use Rattle.std.proofs.Common.{◌≡◌, sym, subst, ℕ, true, List}
 use Rattle.tql_catalog.specs.Definitions.{reference_of}
-use Rattle.tql_keys.specs.Asked.{new_rows, row_named}
-use Rattle.tql_keys.specs.Keeping.{are_kept}
+use Rattle.tql_key_rows.specs.Asked.{new_rows, row_named}
+use Rattle.tql_key_rows.specs.Keeping.{are_kept}
 use Rattle.tql_keys.proofs.KeptReferences.{child_kept_after}
 use Rattle.tql_keys.proofs.references.child_after.Goals as goal
 

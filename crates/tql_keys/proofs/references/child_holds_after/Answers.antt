@@ -5,9 +5,9 @@ use Rattle.tql_spec.specs.Constraint.{is_met, shown_rows}
 use Rattle.tql_spec.specs.Datum.{Row}
 use Rattle.tql_expr.specs.Shown.{shown_by}
 use Rattle.tql_catalog.specs.Definitions.{reference_of}
-use Rattle.tql_keys.specs.Asked.{new_rows}
+use Rattle.tql_key_rows.specs.Asked.{new_rows}
+use Rattle.tql_key_rows.proofs.Stepping.{new_row, left_decides, left_none}
 use Rattle.tql_keys.proofs.Children.{child_after}
-use Rattle.tql_keys.proofs.Stepping.{new_row, left_decides, left_none}
 use Rattle.tql_keys.proofs.references.child_holds_after.Goals as goal
 
 pub returns-then-not-branch : goal.returns-then-not-branch

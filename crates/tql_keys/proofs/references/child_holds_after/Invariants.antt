@@ -3,7 +3,7 @@ use Rattle.std.specs.List.{list_all}
 use Rattle.tql_spec.specs.Constraint.{is_met, shown_rows}
 use Rattle.tql_spec.specs.Definition.{Stamped}
 use Rattle.tql_catalog.specs.Definitions.{reference_of}
-use Rattle.tql_keys.specs.Asked.{AreRowsOf, new_rows}
+use Rattle.tql_key_rows.specs.Asked.{AreRowsOf, new_rows}
 use Rattle.tql_keys.proofs.references.child_holds_after.Given as goal
 
 -- the result depends on the remaining new rows

@@ -3,8 +3,8 @@ use Rattle.tql_spec.specs.Constraint.{covered}
 use Rattle.tql_spec.specs.Definition.{period_of}
 use Rattle.tql_expr.specs.Shown.{shown_by}
 use Rattle.tql_period.specs.Points.{points_of}
+use Rattle.tql_key_rows.proofs.Sharing.{risen, not_risen}
 use Rattle.tql_keys.proofs.Gathering.{covers_is, covers_nothing}
-use Rattle.tql_keys.proofs.Sharing.{risen, not_risen}
 use Rattle.tql_keys.proofs.references.is_covered.Goals as goal
 
 pub returns-in-Some : goal.returns-in-Some

@@ -5,7 +5,7 @@ use Rattle.tql_spec.specs.Constraint.{is_met, shown_rows}
 use Rattle.tql_catalog.specs.Definitions.{reference_of}
 use Rattle.tql_expr.specs.Shown.{shown_by}
 use Rattle.tql_store.specs.Changes.{rows_after}
-use Rattle.tql_keys.specs.Touched.{is_child_of_first}
+use Rattle.tql_keys.specs.Spared.{is_child_of_first}
 use Rattle.tql_keys.proofs.references.is_left_or_met.Goals as goal
 
 pub returns : goal.returns

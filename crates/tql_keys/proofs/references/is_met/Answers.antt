@@ -9,12 +9,14 @@ use Rattle.tql_catalog.specs.Definitions.{reference_of}
 use Rattle.tql_store.specs.Changes.{rows_after}
 use Rattle.tql_versions.specs.declared.version.Version.{Version}
 use Rattle.tql_value.specs.Views.{datum_of_view}
-use Rattle.tql_keys.specs.Asked.{new_rows, row_named, staying}
-use Rattle.tql_keys.specs.Parents.{any_left, any_with}
-use Rattle.tql_keys.specs.Touched.{tuple, has_tuple}
+use Rattle.tql_key_rows.specs.Asked.{new_rows, row_named}
+use Rattle.tql_key_rows.specs.Coming.{any_with}
+use Rattle.tql_key_rows.specs.Touched.{tuple, has_tuple}
+use Rattle.tql_key_clashes.specs.Named.{staying}
+use Rattle.tql_keys.specs.Parents.{any_left}
+use Rattle.tql_key_rows.proofs.FoundIn.{found_in_as}
+use Rattle.tql_key_rows.proofs.Wheres.{any_bag}
 use Rattle.tql_keys.proofs.Children.{parents_decide, parents_near, parents_told}
-use Rattle.tql_keys.proofs.FoundIn.{found_in_as}
-use Rattle.tql_keys.proofs.Sameness.{any_bag}
 use Rattle.tql_keys.proofs.references.is_met.Goals as goal
 
 pub returns : goal.returns

@@ -8,7 +8,8 @@ use Rattle.tql_spec.proofs.Bags.{same-refl}
 use Rattle.tql_expr.specs.Shown.{shown_by}
 use Rattle.tql_catalog.specs.Definitions.{reference_of}
 use Rattle.tql_store.specs.Changes.{rows_after}
-use Rattle.tql_keys.specs.Asked.{IsJudged, new_rows, row_named}
+use Rattle.tql_key_rows.specs.Asked.{new_rows, row_named}
+use Rattle.tql_key_clashes.specs.Named.{IsJudged}
 use Rattle.tql_keys.proofs.Children.{unchanged, none_judged}
 use Rattle.tql_keys.proofs.references.is_met_now.Goals as goal
 

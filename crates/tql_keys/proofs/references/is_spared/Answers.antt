@@ -9,11 +9,12 @@ use Rattle.tql_catalog.specs.Definitions.{reference_of}
 use Rattle.tql_store.specs.Changes.{rows_after}
 use Rattle.tql_versions.specs.declared.version.Version.{Version}
 use Rattle.tql_value.specs.Views.{datum_of_view}
-use Rattle.tql_keys.specs.Asked.{row_found, row_named}
-use Rattle.tql_keys.specs.Touched.{is_child_of_first, tuple}
-use Rattle.tql_keys.proofs.FoundIn.{found_in_as}
+use Rattle.tql_key_rows.specs.Asked.{row_found, row_named}
+use Rattle.tql_key_rows.specs.Touched.{tuple}
+use Rattle.tql_keys.specs.Spared.{is_child_of_first}
+use Rattle.tql_key_rows.proofs.FoundIn.{found_in_as}
+use Rattle.tql_key_rows.proofs.Stepping.{one_left, none_left}
 use Rattle.tql_keys.proofs.Parented.{children_told}
-use Rattle.tql_keys.proofs.Stepping.{one_left, none_left}
 use Rattle.tql_keys.proofs.references.is_spared.Goals as goal
 
 pub returns-then-not-met : goal.returns-then-not-met

@@ -6,8 +6,9 @@ use Rattle.tql_spec.specs.Definition.{Stamped, shown}
 use Rattle.tql_catalog.specs.Definitions.{reference_of}
 use Rattle.tql_expr.specs.Shown.{shown_by}
 use Rattle.tql_store.specs.Changes.{rows_after}
-use Rattle.tql_keys.specs.Asked.{AreRowsOf, IsJudged, row_found, row_named}
-use Rattle.tql_keys.specs.Touched.{is_child_of_first}
+use Rattle.tql_key_rows.specs.Asked.{AreRowsOf, row_found, row_named}
+use Rattle.tql_key_clashes.specs.Named.{IsJudged}
+use Rattle.tql_keys.specs.Spared.{is_child_of_first}
 use Rattle.tql_keys.proofs.references.is_spared.Given as goal
 
 -- the result depends on the remaining child rows

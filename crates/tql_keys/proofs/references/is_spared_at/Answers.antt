@@ -5,7 +5,7 @@ use Rattle.tql_catalog.specs.Definitions.{reference_of}
 use Rattle.tql_expr.specs.Shown.{shown_by}
 use Rattle.tql_expr.specs.declared.stored.StoredRow.{StoredRow}
 use Rattle.tql_store.specs.Changes.{rows_after}
-use Rattle.tql_keys.specs.Touched.{is_first_spared}
+use Rattle.tql_keys.specs.Spared.{is_first_spared}
 use Rattle.tql_keys.proofs.references.is_spared_at.Goals as goal
 
 pub returns-in-Some : goal.returns-in-Some

@@ -1,11 +1,11 @@
 use Rattle.std.proofs.Common.{◌≡◌, sym, subst, ◌∙◌, ℕ, true, List}
 use Rattle.tql_spec.specs.Constraint.{shown_rows}
 use Rattle.tql_catalog.specs.Definitions.{reference_of}
-use Rattle.tql_keys.specs.Asked.{new_rows, row_named}
-use Rattle.tql_keys.specs.Keeping.{are_kept}
-use Rattle.tql_keys.proofs.KeptLists.{among_bag}
+use Rattle.tql_key_rows.specs.Asked.{new_rows, row_named}
+use Rattle.tql_key_rows.specs.Keeping.{are_kept}
+use Rattle.tql_key_rows.proofs.KeptLists.{among_bag}
+use Rattle.tql_key_clashes.proofs.NamedRows.{among_in}
 use Rattle.tql_keys.proofs.KeptReferences.{parent_kept_after}
-use Rattle.tql_keys.proofs.NamedRows.{among_in}
 use Rattle.tql_keys.proofs.references.parent_after.Goals as goal
 
 pub returns-then-are_kept : goal.returns-then-are_kept

@@ -8,13 +8,14 @@ use Rattle.tql_catalog.specs.declared.catalog.Table.{Table}
 use Rattle.tql_expr.specs.Shown.{shown_by}
 use Rattle.tql_expr.specs.declared.stored.StoredRow.{StoredRow}
 use Rattle.tql_store.specs.Changes.{rows_after}
-use Rattle.tql_keys.specs.Asked.{AreRowsOf, IsJudged, current_rows, row_named}
-use Rattle.tql_keys.specs.Coming.{TuplesRise}
-use Rattle.tql_keys.specs.Touched.{are_spared, is_spared}
+use Rattle.tql_key_rows.specs.Asked.{AreRowsOf, current_rows, row_named}
+use Rattle.tql_key_rows.specs.Coming.{TuplesRise}
+use Rattle.tql_key_clashes.specs.Named.{IsJudged}
+use Rattle.tql_keys.specs.Spared.{are_spared, is_spared}
+use Rattle.tql_key_rows.proofs.Wheres.{all_bag}
+use Rattle.tql_key_clashes.proofs.NamedRows.{store_names}
 use Rattle.tql_keys.proofs.InTurn.{spared_in_turn}
-use Rattle.tql_keys.proofs.NamedRows.{store_names}
 use Rattle.tql_keys.proofs.Parented.{parent_after}
-use Rattle.tql_keys.proofs.Wheres.{all_bag}
 use Rattle.tql_keys.proofs.references.parent_holds_after.Goals as goal
 
 pub returns : goal.returns

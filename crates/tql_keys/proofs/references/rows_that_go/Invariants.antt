@@ -4,7 +4,7 @@ use Rattle.std.specs.List.{list_all}
 use Rattle.tql_spec.specs.Datum.{Row}
 use Rattle.tql_spec.specs.Definition.{shown}
 use Rattle.tql_expr.specs.Shown.{shown_by}
-use Rattle.tql_keys.specs.Asked.{row_named}
+use Rattle.tql_key_rows.specs.Asked.{row_named}
 use Rattle.tql_keys.specs.Named.{of_named}
 use Rattle.tql_keys.proofs.references.rows_that_go.Given as goal
 

@@ -6,9 +6,9 @@ use Rattle.tql_spec.specs.Datum.{Row}
 use Rattle.tql_expr.specs.Shown.{shown_by}
 use Rattle.tql_expr.specs.declared.stored.StoredRow.{StoredRow}
 use Rattle.tql_value.specs.Views.{datum_of_view}
-use Rattle.tql_keys.specs.Touched.{has_tuple}
-use Rattle.tql_keys.proofs.Agreeing.{any_map}
-use Rattle.tql_keys.proofs.Bools.{and_yes}
+use Rattle.tql_key_rows.specs.Touched.{has_tuple}
+use Rattle.tql_key_rows.proofs.Agreeing.{any_map}
+use Rattle.tql_key_rows.proofs.Bools.{and_yes}
 use Rattle.tql_keys.proofs.references.some_comes.Goals as goal
 
 pub returns : goal.returns

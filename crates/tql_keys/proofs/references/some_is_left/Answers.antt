@@ -5,7 +5,7 @@ use Rattle.std.proofs.lemmas.Iterator.{YieldsList-from_slice}
 use Rattle.std.proofs.lemmas.Iterator.Search.{any_from_yields_List}
 use Rattle.tql_store.specs.StoreModel.{is_among}
 use Rattle.tql_versions.specs.declared.version.Version.{Version}
-use Rattle.tql_keys.proofs.Bools.{and_yes}
+use Rattle.tql_key_rows.proofs.Bools.{and_yes}
 use Rattle.tql_keys.proofs.references.some_is_left.Goals as goal
 
 pub returns : goal.returns

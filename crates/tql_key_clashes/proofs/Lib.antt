@@ -1,0 +1,10 @@
+pub mod Alikes
+pub mod Freely
+pub mod KeptKeys
+pub mod KeptRows
+pub mod KeyBags
+pub mod KeyLaw
+pub mod NamedRows
+pub mod Neighbours
+pub mod Positions
+pub mod SortedRivals

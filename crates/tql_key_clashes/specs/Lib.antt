@@ -1,0 +1,3 @@
+pub mod Free
+pub mod Named
+pub mod Rivals

@@ -1,0 +1,12 @@
+pub mod Agreeing
+pub mod Bools
+pub mod FoundIn
+pub mod FoundRows
+pub mod KeptLists
+pub mod Listed
+pub mod Ranked
+pub mod Sharing
+pub mod Stepping
+pub mod Tuples
+pub mod Wheres
+pub mod Zips

@@ -1,0 +1,22 @@
+-- Sorted by their tuples, and the same bag.
+use Rattle.std.proofs.Common.{rules}
+use Rattle.std.specs.Ordering.{is_lt}
+use Rattle.std.proofs.lemmas.List.Sorted.{ranks_by}
+use Rattle.std.proofs.lemmas.Fn.{always_returns_same}
+use Rattle.tql_spec.specs.Datum.{Row}
+use Rattle.tql_spec.specs.Query.{by_columns}
+use Rattle.tql_spec.proofs.Bags.{same-sym, same-map, same-permutation}
+use Rattle.tql_spec.proofs.Orders.{by_columns-total}
+use Rattle.tql_expr.specs.Shown.{shown_by}
+use Rattle.tql_expr.specs.declared.stored.StoredRow.{StoredRow}
+use Rattle.tql_key_rows.specs.Touched.{tuple}
+use Rattle.tql_key_rows.proofs.coming.sort_by_tuples.Goals as goal
+
+pub returns-clause-rise : goal.returns-clause-rise
+returns-clause-rise c =
+    let p : StoredRow → Row = λ r. tuple c.args.columns.now (shown_by r) in
+    c.sort_unstable_by.ensures.sorted (λ (x y : StoredRow). is_lt (by_columns (p x) (p y)))
+    (ranks_by by_columns-total p) (always_returns_same _ _ _ (λ a r f' k. (search rules, search rules)))
+
+pub returns-clause-same : goal.returns-clause-same
+returns-clause-same c = same-map shown_by (same-sym (same-permutation c.sort_unstable_by.ensures.permutation))

@@ -1,0 +1,3 @@
+pub mod Predicates
+pub mod TestEnds
+pub mod TestWords
