@@ -1,5 +1,5 @@
 -- cases: growths in-turn
--- Which row, column, constraint and values a refusal of rows is reported with, and what is reported of the state of transactions and readers. The .err was read, not written, by hand.
+-- Which row, column, constraint and values a refusal of rows is reported with. The .err was read, not written, by hand.
 CREATE TABLE emp (eno INTEGER, "Name" VARCHAR(20), dno INTEGER, PRIMARY KEY (eno), UNIQUE (dno, "Name"));
 INSERT INTO emp VALUES (1, 'a', 1), (2, 'b', 1), (1, 'c', 2);
 INSERT INTO emp VALUES (1, 'a', 1);
@@ -9,21 +9,10 @@ INSERT INTO emp VALUES (7, 'a text that is longer than twenty', 1);
 INSERT INTO emp VALUES (7, 'a', 1), (NULL, 'b', 1);
 INSERT INTO emp VALUES (7, 'a', 9223372036854775807 + 1);
 INSERT INTO emp (dno, eno) VALUES (1, 7), (2, 4000000000 * 4000000000);
-CREATE TABLE dept (dno INTEGER, dname VARCHAR(10), a DATE, z DATE, PERIOD FOR runs (a, z), PRIMARY KEY (dno, runs WITHOUT OVERLAPS));
-INSERT INTO dept VALUES (1, 'x', DATE '2025-01-01', DATE '2024-01-01');
-INSERT INTO dept VALUES (1, 'x', DATE '2024-01-01', DATE '2025-01-01'), (1, 'y', DATE '2024-06-01', DATE '2026-01-01');
-INSERT INTO dept VALUES (1, 'x', DATE '2024-01-01', DATE '2025-01-01'), (2, 'y', DATE '2024-06-01', DATE '2026-01-01');
-INSERT INTO dept VALUES (3, 'x', DATE '2024-01-01', DATE '2025-01-01'), (2, 'y', DATE '2025-06-01', DATE '2026-02-01');
 CREATE TABLE c (x INTEGER, y INTEGER, CHECK (x < 10), CHECK (x > 0), CHECK (x < y), CHECK (x + y > 0));
 INSERT INTO c VALUES (5, 6), (-1, 2);
 INSERT INTO c VALUES (5, 4);
 INSERT INTO c VALUES (5, 9223372036854775807);
-CREATE TABLE kid (n INTEGER, d INTEGER, s DATE, e DATE, PERIOD FOR p (s, e), FOREIGN KEY (d, PERIOD p) REFERENCES dept (dno, PERIOD runs));
-INSERT INTO kid VALUES (1, 1, DATE '2024-02-01', DATE '2024-03-01'), (2, 1, DATE '2024-12-01', DATE '2025-02-01');
-INSERT INTO kid VALUES (1, 1, DATE '2024-02-01', DATE '2024-03-01'), (2, 2, DATE '2024-12-01', DATE '2025-02-01');
-DELETE FROM dept WHERE dno = 2;
-DELETE FROM dept FOR PORTION OF runs FROM DATE '2024-02-10' TO DATE '2024-02-20' WHERE dno = 1;
-UPDATE dept SET dno = 2 WHERE dno = 1;
 CREATE TABLE boss (eno INTEGER, b INTEGER, FOREIGN KEY (b) REFERENCES emp (eno));
 INSERT INTO boss VALUES (1, NULL), (2, 2), (3, 9);
 INSERT INTO boss VALUES (1, NULL), (2, 1), (3, 1);
@@ -38,18 +27,3 @@ INSERT INTO emp SELECT eno + 9223372036854775807, 'x', dno FROM emp;
 INSERT INTO emp SELECT 5, 'q', x FROM c;
 INSERT INTO emp VALUES (1, 'a', 1);
 INSERT INTO emp SELECT eno + 1, 'q', 5 FROM boss;
-COMMIT;
-START TRANSACTION;
-START TRANSACTION;
-AT TIMESTAMP '2024-01-01 00:00:00';
-COMMIT;
-AT TIMESTAMP '0001-01-01 00:00:00';
-OPEN READER early;
-OPEN READER early;
-READ late SELECT eno FROM emp;
-READ early SELECT eno FROM emp;
-DROP TABLE c;
-CLOSE READER early;
-PRUNE HISTORY BEFORE TIMESTAMP '2024-01-01 00:00:00';
-PRUNE HISTORY BEFORE TIMESTAMP '2023-01-01 00:00:00';
-SELECT eno FROM emp;

@@ -1,4 +1,4 @@
--- cases: whole
+-- cases: short whole
 -- One UPDATE closes 100,000 versions of a table; then one row is changed, one removed, all are removed and given back.
 -- The sum of 0 to 99,999 is 4,999,950,000. By hand from docs/LANGUAGE.md.
 CREATE TABLE d (n INTEGER);

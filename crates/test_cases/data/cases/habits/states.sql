@@ -1,0 +1,20 @@
+-- cases: growths in-turn
+-- What is reported of the state of transactions and readers. The .err was read, not written, by hand.
+CREATE TABLE emp (eno INTEGER);
+INSERT INTO emp VALUES (1), (1001);
+CREATE TABLE c (x INTEGER);
+COMMIT;
+START TRANSACTION;
+START TRANSACTION;
+AT TIMESTAMP '2024-01-01 00:00:00';
+COMMIT;
+AT TIMESTAMP '0001-01-01 00:00:00';
+OPEN READER early;
+OPEN READER early;
+READ late SELECT eno FROM emp;
+READ early SELECT eno FROM emp;
+DROP TABLE c;
+CLOSE READER early;
+PRUNE HISTORY BEFORE TIMESTAMP '2024-01-01 00:00:00';
+PRUNE HISTORY BEFORE TIMESTAMP '2023-01-01 00:00:00';
+SELECT eno FROM emp;
