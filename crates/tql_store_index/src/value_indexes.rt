@@ -1,6 +1,6 @@
 //! The indexes of a table, one for each index definition (`Basis`).
 ghost use Rattle.std.specs.Prelude.{◌≡◌, ◌≢◌, ◌<◌, ◌≤◌, ◌+◌, ◌==◌, ◌++◌, [], ◌∷◌, All, OnOk, OnErr, IfOk, IfSome};
-ghost use Rattle.std.specs.Prelude.{None, length, map, option_map, slice_set};
+ghost use Rattle.std.specs.Prelude.{None, true, false, length, map, option_map, slice_set};
 ghost use Rattle.tql_spec.specs.Bag.{SameBag};
 ghost use Rattle.tql_period.specs.Points.{points_of};
 ghost use Rattle.tql_store_index.specs.Basis.{ServesIf, With, WithIn, basis_of, filed, meets, meets_if, sought_of};
@@ -8,7 +8,7 @@ ghost use Rattle.tql_store_index.specs.Basis.{stands_by};
 ghost use Rattle.tql_store_index.specs.Seating.{seat_at};
 ghost use Rattle.tql_store_index.specs.Standing.{passes, seats_if, stands};
 ghost use Rattle.tql_store_index.specs.ValueIndexes.{Each, IsGrown, IsTurned, IsLinked, DiffersIn, AreLoose};
-ghost use Rattle.tql_store_index.specs.ValueIndexes.{IsFoundBy, index_at};
+ghost use Rattle.tql_store_index.specs.ValueIndexes.{HasPeriod, IsFoundBy, StandsAs, index_at};
 ghost use Rattle.tql_value.specs.Views.{datum_of_view};
 
 use crate::basis::{Basis, Sought};
@@ -75,6 +75,22 @@ impl<I: IntervalIndex> ValueIndex<I> {
     {
         let span = self.basis.span(row, during);
         self.index.link(seat, span)
+    }
+
+    /// Whether a row slot has the period under which this row is entered.
+    fn has(&self, seat: usize, row: &Row, during: Period) -> bool
+        ensures { result ≡ true → stands self.now.standing seat
+            ≡ stands_by self.now.basis (filed row.now (points_of during)) }
+    {
+        self.index.has(seat, self.basis.span(row, during))
+    }
+
+    /// Whether a row slot has a period.
+    fn has_any(&self, seat: usize) -> bool
+        ensures some { result ≡ true → stands self.now.standing seat ≢ None }
+        ensures none { result ≡ false → stands self.now.standing seat ≡ None }
+    {
+        self.index.has_any(seat)
     }
 
     /// Removes the rows at positions `from..to` from the index. Allocates no memory.
@@ -227,6 +243,38 @@ fn enter_each<I: IntervalIndex>(
     Ok(())
 }
 
+/// Whether, in each index, a row slot has the period under which this row is entered.
+fn all_have<I: IntervalIndex>(
+    indexes: &[ValueIndex<I>],
+    seat: usize,
+    row: &Row,
+    during: Period,
+) -> bool
+    ensures { result ≡ true → (i : _) → i < length indexes.now → stands (index_at indexes.now i).standing seat
+        ≡ stands_by (index_at indexes.now i).basis (filed row.now (points_of during)) }
+{
+    for index in indexes {
+        if !index.has(seat, row, during) {
+            return false;
+        }
+    }
+    true
+}
+
+/// Whether a row slot has a period in some index.
+fn some_has<I: IntervalIndex>(indexes: &[ValueIndex<I>], seat: usize) -> bool
+    ensures some { result ≡ true → HasPeriod seat indexes.now }
+    ensures none { result ≡ false → (i : _) → i < length indexes.now
+        → stands (index_at indexes.now i).standing seat ≡ None }
+{
+    for index in indexes {
+        if index.has_any(seat) {
+            return true;
+        }
+    }
+    false
+}
+
 /// Removes the rows at positions `from..to` from each index. Allocates no memory.
 fn leave_each<I: IntervalIndex>(
     indexes: &mut [ValueIndex<I>],
@@ -317,6 +365,33 @@ impl<I: IntervalIndex> ValueIndexes<I> {
             ≡ stands_by (index_at self.old i).basis (filed row.now (points_of during))) }
     {
         enter_each(&mut self.indexes, seats, place, row, during)
+    }
+
+    /// Whether there is a row slot at a position that has a period in some index.
+    pub fn has_any(&self, seats: &Seats, place: usize) -> bool
+        ensures some { result ≡ true
+            → (place < length seats.now.seats) × HasPeriod (seat_at seats.now place) self.now }
+        ensures none { result ≡ false → place < length seats.now.seats → (i : _) → i < length self.now
+            → stands (index_at self.now i).standing (seat_at seats.now place) ≡ None }
+    {
+        if place < seats.len() {
+            some_has(&self.indexes, seats.seat(place))
+        } else {
+            false
+        }
+    }
+
+    /// Whether the row slot at a position has a period in some index and, in each index, the one under which this row
+    /// is entered.
+    pub fn stands_as(&self, seats: &Seats, place: usize, row: &Row, during: Period) -> bool
+        ensures { result ≡ true → StandsAs seats.now place self.now (filed row.now (points_of during)) }
+    {
+        if place < seats.len() {
+            let seat = seats.seat(place);
+            some_has(&self.indexes, seat) && all_have(&self.indexes, seat, row, during)
+        } else {
+            false
+        }
     }
 
     /// Removes the rows at positions `from..to` from each index. Allocates no memory.
