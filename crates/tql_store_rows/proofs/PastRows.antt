@@ -19,7 +19,10 @@ use Rattle.tql_store_rows.proofs.RowsStanding.{standing_more, standing_nil, stan
 use Rattle.tql_store_rows.proofs.Turns.{at-closing, length-closing}
 use Rattle.tql_versions.specs.Changes.{closing, ended, fresh, nothing, taken}
 use Rattle.tql_versions.specs.Marks.{below, from}
-use Rattle.tql_store_rows.specs.RowsStanding.{AllStand, AreStanding, IsComing, IsFilled, Rises, ending, past_of}
+use Rattle.tql_store_rows.proofs.LentRows.{free_stand, listed_front, none_front, shut_front}
+use Rattle.tql_store_rows.specs.Loans.{AllStand, AreLent, AreListed, AreShut, IsFront}
+use Rattle.tql_store_rows.specs.declared.borrowing.Loan.{Loan}
+use Rattle.tql_store_rows.specs.RowsStanding.{AreStanding, IsComing, IsFilled, Rises, ending, past_of}
 use Rattle.tql_store_rows.specs.RowsStanding.{past_rows, pasts_at, pasts_of, rows_of}
 use Rattle.tql_versions.specs.Places.{version_at}
 use Rattle.tql_store_rows.specs.TableModel.{TableModel, InTurn}
@@ -219,19 +222,18 @@ none_behind base dead e = subst (All (λ k. base ≤ k)) (sym e) (All-nil (λ k.
 
 -- a table without rows
 pub none_stand : (keeps : Bool) (s t : Seating) (indexes past : List ValueIndex) (current closed : List Kept)
-    (ended : List ℕ) (base : ℕ) (dead : List ℕ) → s ≡ record { seats = []; places = [] }
+    (ended : List ℕ) (base : ℕ) (dead : List ℕ) (loans : List Loan) → s ≡ record { seats = []; places = [] }
     → t ≡ record { seats = []; places = [] }
     → All (λ (k : ValueIndex). k.standing ≡ []) indexes → All (λ (k : ValueIndex). k.standing ≡ []) past
-    → current ≡ [] → ended ≡ [] → closed ≡ [] → dead ≡ []
-    → AllStand keeps s indexes t past (versions_of current) ended (versions_of closed) base dead
-none_stand keeps s t indexes past current closed ended base dead e f all all' none nil gone empty = record {
-  current_ones = subst (AreStanding s indexes) (sym (ap (λ ks. rows_of (versions_of ks)) none))
-      (standing_none s indexes e all);
-  past_ones = subst (AreStanding t past) (sym (ap (λ is. past_rows keeps (versions_of current) is (versions_of closed))
-      nil ∙ ap (λ ks. past_rows keeps (versions_of current) [] (versions_of ks)) gone
-      ∙ sym (past_alone_rows keeps (versions_of current) []))) (standing_none t past f all');
-  behind = none_behind base dead empty;
-}
+    → current ≡ [] → ended ≡ [] → closed ≡ [] → dead ≡ [] → loans ≡ []
+    → AllStand keeps s indexes t past (versions_of current) ended (versions_of closed) base dead loans
+none_stand keeps s t indexes past current closed ended base dead loans e f all all' none nil gone empty free =
+    free_stand keeps s t indexes past (versions_of current) ended (versions_of closed) base dead loans free
+    (subst (AreStanding s indexes) (sym (ap (λ ks. rows_of (versions_of ks)) none)) (standing_none s indexes e all))
+    (subst (AreStanding t past) (sym (ap (λ is. past_rows keeps (versions_of current) is (versions_of closed)) nil
+    ∙ ap (λ ks. past_rows keeps (versions_of current) [] (versions_of ks)) gone
+    ∙ sym (past_alone_rows keeps (versions_of current) []))) (standing_none t past f all'))
+    (none_behind base dead empty)
 
 -- the rows that a change ends follow those ended before, in terms of the versions before the change
 pub more_stand : (keeps : Bool) (n m : ℤ) (t : Seating) (past : List ValueIndex) (before versions : List Kept)
@@ -336,22 +338,31 @@ past_filled keeps t past current ended closed number e h k = record {
   standing = h;
 }
 
--- a failed change leaves the rows entered as they were
+-- a failed change leaves the rows entered as they were; of the loans, the first ones are left
 pub refused_stand : (keeps : Bool) (s t : Seating) (indexes past : List ValueIndex)
     (before current closed later : List Kept) (ended cut : List ℕ) (base : ℕ) (dead left : List ℕ)
-    → current ≡ before → later ≡ closed → cut ≡ ended → left ≡ dead
-    → AreStanding s indexes (rows_of (versions_of current))
+    (loans fewer : List Loan) → current ≡ before → later ≡ closed → cut ≡ ended → left ≡ dead
+    → IsFront fewer loans → AreLent base fewer s indexes (rows_of (versions_of current))
     → AreStanding t past (past_rows keeps (versions_of before) ended (versions_of closed))
-    → All (λ k. base ≤ k) dead
-    → AllStand keeps s indexes t past (versions_of current) cut (versions_of later) base left
-refused_stand keeps s t indexes past before current closed later ended cut base dead left e f g same h i low = record {
-  behind = subst (All (λ k. base ≤ k)) (sym same) low;
-  current_ones = h;
-  past_ones = subst (AreStanding t past)
-      (sym (ap (λ ks. past_rows keeps (versions_of ks) cut (versions_of later)) e
-      ∙ ap (λ js. past_rows keeps (versions_of before) js (versions_of later)) g
-      ∙ ap (λ ks. past_rows keeps (versions_of before) ended (versions_of ks)) f)) i;
-}
+    → All (λ k. base ≤ k) dead → AreShut loans (versions_of before) → AreListed loans ended
+    → (dead ≡ []) ⊎ (loans ≡ [])
+    → AllStand keeps s indexes t past (versions_of current) cut (versions_of later) base left fewer
+refused_stand keeps s t indexes past before current closed later ended cut base dead left loans fewer e f g same first
+    h i low shut listed settled = record {
+      behind = subst (All (λ k. base ≤ k)) (sym same) low;
+      current_ones = h;
+      past_ones = subst (AreStanding t past)
+          (sym (ap (λ ks. past_rows keeps (versions_of ks) cut (versions_of later)) e
+          ∙ ap (λ js. past_rows keeps (versions_of before) js (versions_of later)) g
+          ∙ ap (λ ks. past_rows keeps (versions_of before) ended (versions_of ks)) f)) i;
+      shut = subst (λ (ks : List Kept). AreShut fewer (versions_of ks)) (sym e) (shut_front loans fewer
+          (versions_of before) first shut);
+      listed = subst (AreListed fewer) (sym g) (listed_front loans fewer ended first listed);
+      settled = elim settled [
+        | inl x ↦ inl (same ∙ x)
+        | inr x ↦ inr (none_front loans fewer first x)
+      ];
+    }
 
 -- cutting a list back to its old length restores it
 pub cut_back : (all old new left : List ℕ) (n : ℕ) → all ≡ old ++ new → n ≡ length old → left ≡ take n all

@@ -27,7 +27,7 @@ use Rattle.tql_versions.specs.Changes.{is_current, emptied, moved_out, nothing}
 use Rattle.tql_versions.specs.Views.{version_of, versions_of}
 use Rattle.tql_versions.specs.declared.kept.Kept.{Kept}
 
-past_end : {X : Type 0} (xs : List (Option X)) (j : ℕ) → length xs ≤ j → get_or xs j None ≡ None
+pub past_end : {X : Type 0} (xs : List (Option X)) (j : ℕ) → length xs ≤ j → get_or xs j None ≡ None
 past_end [] j l = refl
 past_end (x ∷ xs) zero l = absurd (omega (arith, l))
 past_end (x ∷ xs) (suc j) l = past_end xs j (omega (arith, l))
@@ -35,7 +35,7 @@ past_end (x ∷ xs) (suc j) l = past_end xs j (omega (arith, l))
 pub rows-length : (vs : List Version) → length (rows_of vs) ≡ length vs
 rows-length vs = length-map vs (λ (v : Version). filed v.row.cells whole)
 
-all-length : (basis : Basis) (rows : List Filed) → length (all_of basis rows) ≡ length rows
+pub all-length : (basis : Basis) (rows : List Filed) → length (all_of basis rows) ≡ length rows
 all-length basis rows = length-map rows (stands_by basis)
 
 -- ---- no rows
@@ -57,19 +57,6 @@ standing_none s indexes e h = rw e (record {
 pub standing_nil : (s : Seating) (indexes : List ValueIndex) (rows : List Filed) → length indexes ≡ 0
     → AreStanding s indexes rows
 standing_nil s indexes rows e = record { each = λ i l. absurd (omega (arith, e, l)) }
-
--- with an index, each row has a row slot
-pub shut_room : (s : Seating) (indexes after : List ValueIndex) (ks : List Kept) → length after ≡ length indexes
-    → AreStanding s indexes (rows_of (versions_of ks)) → 0 < length after → length ks ≤ length s.seats
-shut_room s indexes after ks e h l =
-    let r = (h.each 0 (omega (arith, e, l))).room in
-    omega (
-      arith,
-      r,
-      all-length (index_at indexes 0).basis (rows_of (versions_of ks)),
-      rows-length (versions_of ks),
-      length-map ks version_of,
-    )
 
 -- ---- more room
 
@@ -122,7 +109,7 @@ standing_longer s t old new rows to g most e wide h = standing_grown s t old new
 
 -- ---- adding rows
 
-past_is : (basis : Basis) (rows : List Filed) (j : ℕ) (none : Filed) → j < length rows
+pub past_is : (basis : Basis) (rows : List Filed) (j : ℕ) (none : Filed) → j < length rows
     → stands (all_of basis rows) j ≡ stands_by basis (get_or rows j none)
 past_is basis [] j none l = absurd (omega (arith, l))
 past_is basis (r ∷ rows) zero none l = refl
@@ -197,14 +184,6 @@ all_stopped from j n rows s old now new l t a = (
       turned_on from j n s (index_at old i) (index_at now i) (index_at new i) l (a.1 i m).turned (t.1 i o),
 )
 
--- the row that the code reads
-pub cells_read : (rows items : List Row) (j : ℕ) (r : Row) (none : Filed) → j < length items → items ≡ rows
-    → r ≡ get_or items j r → filed r whole ≡ get_or (cells_of rows) j none
-cells_read rows items j r none l e read =
-    ap (λ (v : Row). filed v whole) read
-    ∙ sym (get_or-map (λ (v : Row). filed v whole) items j r none l)
-    ∙ ap (λ rs. get_or (cells_of rs) j none) e
-
 -- the slot of the next position is still empty in each index
 pub still_loose : (from j : ℕ) (rows : List Filed) (s : Seating) (old now : List ValueIndex) → from + j < length s.seats
     → ((i : ℕ) → i < length old → AreLoose from (length s.seats) s (index_at old i).standing)
@@ -274,22 +253,9 @@ standing_more s old new rows added from e room coming h = record {
 pub cells-length : (rows : List Row) → length (cells_of rows) ≡ length rows
 cells-length rows = length-map rows (λ (row : Row). filed row whole)
 
-kept-rows : (ks : List Kept) → length (rows_of (versions_of ks)) ≡ length ks
+pub kept-rows : (ks : List Kept) → length (rows_of (versions_of ks)) ≡ length ks
 kept-rows [] = refl
 kept-rows (k ∷ ks) = ap suc (kept-rows ks)
-
--- after the slots and indexes have grown, the new rows are entered
-pub standing_entered : (s t : Seating) (old grown new : List ValueIndex) (ks : List Kept)
-    (added : List Row) (from to : ℕ) → length ks ≡ from → to ≡ from + length added → AreGrown s t
-    → length t.seats ≤ max (length s.seats) to → to ≤ length t.seats → Each IsGrown old grown
-    → ((i : ℕ) → i < length old → to ≤ length (index_at grown i).standing)
-    → Each (IsComing from (length added) (cells_of added) t) grown new
-    → AreStanding s old (rows_of (versions_of ks)) → AreStanding t new (rows_of (versions_of ks) ++ cells_of added)
-standing_entered s t old grown new ks added from to e f more most room each wide coming h =
-    standing_more t grown new (rows_of (versions_of ks)) (cells_of added) from (kept-rows ks ∙ e)
-    (let n = cells-length added in omega (arith, n, f, room))
-    (subst (λ n. Each (IsComing from n (cells_of added) t) grown new) (sym (cells-length added)) coming)
-    (standing_longer s t old grown (rows_of (versions_of ks)) to more most each wide h)
 
 -- the slots after the rows are empty
 pub loose_behind : (s : Seating) (indexes : List ValueIndex) (rows : List Filed) (from : ℕ) → length rows ≡ from
@@ -377,25 +343,16 @@ standing_less s old new rows more all from to e parts size turned gone h = recor
       (h.each i m));
 }
 
-rows-parts : (from : ℕ) (ks : List Kept)
+pub rows-parts : (from : ℕ) (ks : List Kept)
     → rows_of (versions_of ks) ≡ rows_of (versions_of (take from ks)) ++ rows_of (versions_of (drop from ks))
 rows-parts zero ks = refl
 rows-parts (suc n) [] = refl
 rows-parts (suc n) (k ∷ ks) = ap (λ xs. filed (version_of k).row.cells whole ∷ xs) (rows-parts n ks)
 
-front-length : (from : ℕ) (ks : List Kept) → from ≤ length ks → length (rows_of (versions_of (take from ks))) ≡ from
+pub front-length : (from : ℕ) (ks : List Kept) → from ≤ length ks → length (rows_of (versions_of (take from ks))) ≡ from
 front-length zero ks l = refl
 front-length (suc n) [] l = absurd (omega (arith, l))
 front-length (suc n) (k ∷ ks) l = ap suc (front-length n ks (omega (arith, l)))
-
-pub standing_front : (s : Seating) (old new : List ValueIndex) (ks : List Kept) (from to : ℕ) → from ≤ length ks
-    → length ks ≤ to → Each (IsTurned from to s) old new
-    → ((i : ℕ) → i < length old → AreLoose from to s (index_at new i).standing)
-    → AreStanding s old (rows_of (versions_of ks)) → AreStanding s new (rows_of (versions_of (take from ks)))
-standing_front s old new ks from to l m turned gone h =
-    standing_less s old new (rows_of (versions_of (take from ks))) (rows_of (versions_of (drop from ks)))
-    (rows_of (versions_of ks)) from to (front-length from ks l) (rows-parts from ks)
-    (omega (arith, m, kept-rows ks)) turned gone h
 
 -- ---- removing the rows of closed versions
 
@@ -516,26 +473,26 @@ shut_stepped ks ls s places ps j p a b c room l e f g h i =
 
 -- ---- only versions that pass a test are entered
 
-held-length : (test : Version → Bool) (basis : Basis) (vs : List Version) → length (held_of test basis vs) ≡ length vs
+pub held-length : (test : Version → Bool) (basis : Basis) (vs : List Version) → length (held_of test basis vs) ≡ length vs
 held-length test basis vs = length-map vs (held_in test basis)
 
-at_all : (basis : Basis) (vs : List Version) (k : ℕ) → k < length vs
+pub at_all : (basis : Basis) (vs : List Version) (k : ℕ) → k < length vs
     → stands (all_of basis (rows_of vs)) k ≡ stands_ever basis (version_at vs k).row.cells
 at_all basis [] k l = absurd (omega (arith, l))
 at_all basis (v ∷ vs) zero l = refl
 at_all basis (v ∷ vs) (suc k) l = at_all basis vs k (omega (arith, l))
 
-at_held : (test : Version → Bool) (basis : Basis) (vs : List Version) (k : ℕ) → k < length vs
+pub at_held : (test : Version → Bool) (basis : Basis) (vs : List Version) (k : ℕ) → k < length vs
     → stands (held_of test basis vs) k ≡ held_in test basis (version_at vs k)
 at_held test basis [] k l = absurd (omega (arith, l))
 at_held test basis (v ∷ vs) zero l = refl
 at_held test basis (v ∷ vs) (suc k) l = at_held test basis vs k (omega (arith, l))
 
-all_held : (test : Version → Bool) (basis : Basis) (v : Version) → test v ≡ true
+pub all_held : (test : Version → Bool) (basis : Basis) (v : Version) → test v ≡ true
     → held_in test basis v ≡ stands_ever basis v.row.cells
 all_held test basis v t = ap (λ (b : Bool). if b then stands_ever basis v.row.cells else None) t
 
-none_held : (test : Version → Bool) (basis : Basis) (v : Version) → test v ≡ false → held_in test basis v ≡ None
+pub none_held : (test : Version → Bool) (basis : Basis) (v : Version) → test v ≡ false → held_in test basis v ≡ None
 none_held test basis v f = ap (λ (b : Bool). if b then stands_ever basis v.row.cells else None) f
 
 -- a version passes the test and, if listed, is open; or it fails, and is closed and listed

@@ -1,6 +1,6 @@
 -- Where the rows of a table are entered in each of its indexes.
 use Rattle.std.specs.Prelude.{◌≡◌, ℕ, ◌+◌, ◌<◌, ◌≤◌, ◌⊎◌, false, if◌then◌else◌, List, [], ◌++◌, map, length}
-use Rattle.std.specs.Prelude.{All, Bool, Option, Some, None, filter, ℤ, ◌<ℤ◌}
+use Rattle.std.specs.Prelude.{Bool, Option, Some, None, filter, ℤ, ◌<ℤ◌}
 use Rattle.std.specs.Prelude.{Contains}
 use Rattle.tql_spec.specs.Bag.{SameBag}
 use Rattle.tql_spec.specs.Datum.{Row}
@@ -73,14 +73,6 @@ pub record IsFilled (n : ℕ) (s : Seating) (indexes : List ValueIndex) : Type 0
 -- the period of its version attached
 abbrev pub past_rows : Bool → List Version → List ℕ → List Version → List Filed
 past_rows keeps current ended closed = pasts_of closed ++ (if keeps then pasts_at None ended current else [])
-
--- every current row is entered, and every past one; the positions of versions that the open transaction added and ended
--- are not below the base
-pub record AllStand (keeps : Bool) (s : Seating) (indexes : List ValueIndex) (t : Seating) (past : List ValueIndex)
-    (current : List Version) (ended : List ℕ) (closed : List Version) (base : ℕ) (dead : List ℕ) : Type 0 where
-  pub current_ones : AreStanding s indexes (rows_of current)
-  pub past_ones : AreStanding t past (past_rows keeps current ended closed)
-  pub behind : All (λ k. base ≤ k) dead
 
 -- only the versions that pass a test are entered
 pub record AreHeld (test : Version → Bool) (s : Seating) (indexes : List ValueIndex) (vs : List Version) : Type 0 where

@@ -1,10 +1,16 @@
 //! Current rows in the indexes by value and by application period: adding and removing them.
-ghost use Rattle.std.specs.Prelude.{◌≡◌, ◌<◌, ◌≤◌, ◌+◌, ◌^◌, ◌++◌, [], ◌∷◌, All, OnOk, OnErr, IfOk, length, take};
-ghost use Rattle.std.specs.Prelude.{vec_len};
-ghost use Rattle.tql_store_index.specs.ValueIndexes.{AreLoose, Each, IsTurned, index_at};
-ghost use Rattle.tql_store_rows.specs.RowsStanding.{AreStanding, IsComing, IsShut, cells_of, rows_of};
+ghost use Rattle.std.specs.Prelude.{◌≡◌, ◌<◌, ◌≤◌, ◌+◌, ◌^◌, ◌++◌, [], ◌∷◌, All, OnOk, OnErr, IfOk, IfSome, length};
+ghost use Rattle.std.specs.Prelude.{Contains, None, true, false, take, drop, vec_len};
+ghost use Rattle.tql_store_index.specs.Basis.{filed};
+ghost use Rattle.tql_store_index.specs.Places.{whole};
+ghost use Rattle.tql_store_index.specs.Seating.{seat_at};
+ghost use Rattle.tql_store_index.specs.Standing.{stands};
+ghost use Rattle.tql_store_index.specs.ValueIndexes.{Each, IsTurned, index_at};
+ghost use Rattle.tql_store_rows.specs.Loans.{AreLent, AreMore, AreOwing, IsEntered, IsLoan};
+ghost use Rattle.tql_store_rows.specs.RowsStanding.{IsShut, cells_of, rows_of};
 ghost use Rattle.tql_versions.specs.Views.{versions_of};
 
+use crate::borrowing::{Loan, take_back};
 use std::alloc::AllocError;
 use tql_index::index::IntervalIndex;
 use tql_memory::Memory;
@@ -16,7 +22,7 @@ use tql_store_index::value_indexes::ValueIndexes;
 use tql_versions::kept::{Kept, is_open};
 
 /// Every moment and day: the period attached to a current row. No index of current rows uses it.
-const EVER: Period = Period {
+pub const EVER: Period = Period {
     start: i64::MIN,
     end: i64::MAX,
 };
@@ -59,42 +65,126 @@ pub fn row_indexes<I: IntervalIndex>(
     Ok(indexes)
 }
 
-/// Enters the rows in the indexes, the first at position `from`. Fails if out of memory; then some of them may be
-/// entered.
+/// Returns the position of the version that may lend its row slot to the new row with this number: the one in
+/// `lenders`, if it is below the base.
+fn lender_at(lenders: &[usize], number: usize, base: usize) -> Option<usize>
+    ensures { IfSome result (λ p. (p < base) × Contains lenders.now p) }
+{
+    match lenders.get(number) {
+        Some(lender) => { if *lender < base { Some(*lender) } else { None } }
+        None => None,
+    }
+}
+
+/// Lets the row at the position `place` take over the row slot of a version, if the indexes have it under the periods of
+/// the row. Returns whether they do. If out of memory, nothing changes.
+fn borrow_seat<I: IntervalIndex>(
+    indexes: &ValueIndexes<I>,
+    seats: &mut Seats,
+    loans: &mut Vec<Loan, Memory>,
+    lender: usize,
+    place: usize,
+    row: &Row,
+) -> Result<bool, AllocError>
+    requires there { place < length seats.old.seats }
+    ensures lent { IfOk result (λ lent. lent ≡ true → IsLoan lender place (filed row.now whole) loans.old.items
+        loans.new.items seats.old seats.new indexes.now) }
+    ensures same { IfOk result (λ lent. lent ≡ false
+        → (loans.new.items ≡ loans.old.items) × (seats.new ≡ seats.old)) }
+    ensures err { OnErr result ((loans.new.items ≡ loans.old.items) × (seats.new ≡ seats.old)) }
+{
+    if !indexes.stands_as(seats, lender, row, EVER) {
+        return Ok(false);
+    }
+    loans.push(Loan {
+        lender,
+        borrower: place,
+    })?;
+    seats.swap(lender, place);
+    Ok(true)
+}
+
+/// Enters a new row after the others. If `lender` is the position of a version with the same periods in the indexes,
+/// the row takes over its row slot, and needs no new entry. If out of memory, only some of the indexes contain it.
+fn enter_one<I: IntervalIndex>(
+    indexes: &mut ValueIndexes<I>,
+    seats: &mut Seats,
+    loans: &mut Vec<Loan, Memory>,
+    lender: Option<usize>,
+    place: usize,
+    row: &Row,
+) -> Result<(), AllocError>
+    requires there { place < length seats.old.seats }
+    requires wide { (i : _) → i < length indexes.old
+        → length seats.old.seats ≤ length (index_at indexes.old i).standing }
+    requires loose { (i : _) → i < length indexes.old
+        → stands (index_at indexes.old i).standing (seat_at seats.old place) ≡ None }
+    ensures ok { OnOk result (IsEntered lender place (filed row.now whole) loans.old.items loans.new.items seats.old
+        seats.new indexes.old indexes.new) }
+    ensures err { OnErr result ((loans.new.items ≡ loans.old.items) × ((seats.new ≡ seats.old)
+        × Each (IsTurned place (place + 1) seats.old) indexes.old indexes.new)) }
+{
+    if let Some(lender) = lender {
+        if borrow_seat(indexes, seats, loans, lender, place, row)? {
+            return Ok(());
+        }
+    }
+    indexes.enter(seats, place, row, EVER)
+}
+
+/// Enters the new rows after those of the versions. Each may take over the row slot of the version at the position in
+/// `lenders` with the same number. Fails if out of memory; then some of them may be entered.
 fn enter_each<I: IntervalIndex>(
     indexes: &mut ValueIndexes<I>,
-    seats: &Seats,
-    from: usize,
+    seats: &mut Seats,
+    loans: &mut Vec<Loan, Memory>,
+    versions: &Vec<Kept, Memory>,
     rows: &Vec<Row, Memory>,
+    lenders: &[usize],
+    base: usize,
 ) -> Result<(), AllocError>
-    requires fits { from + vec_len rows.now < 2 ^ 64 }
-    requires room { from + length rows.now.items ≤ length seats.now.seats }
-    requires wide { (i : _) → i < length indexes.old
-        → length seats.now.seats ≤ length (index_at indexes.old i).standing }
-    requires loose { (i : _) → i < length indexes.old
-        → AreLoose from (length seats.now.seats) seats.now (index_at indexes.old i).standing }
-    ensures turned { Each (IsTurned from (from + length rows.now.items) seats.now) indexes.old indexes.new }
-    ensures came { OnOk result
-        (Each (IsComing from (length rows.now.items) (cells_of rows.now.items) seats.now) indexes.old indexes.new) }
+    requires fits { vec_len versions.now + vec_len rows.now < 2 ^ 64 }
+    requires based { base ≤ length versions.now.items }
+    requires room { length versions.now.items + length rows.now.items ≤ length seats.old.seats }
+    requires standing { AreLent base loans.old.items seats.old indexes.old (rows_of (versions_of versions.now.items)) }
+    ensures even { length seats.new.seats ≡ length seats.old.seats }
+    ensures indexes { length indexes.new ≡ length indexes.old }
+    ensures more { AreMore (length versions.now.items) lenders.now loans.old.items loans.new.items }
+    ensures ok { OnOk result (AreLent base loans.new.items seats.new indexes.new
+        (rows_of (versions_of versions.now.items) ++ cells_of rows.now.items)) }
+    ensures err { OnErr result (AreOwing base (length versions.now.items)
+        (length versions.now.items + length rows.now.items)
+        (take (length loans.old.items) loans.new.items) (drop (length loans.old.items) loans.new.items)
+        seats.new indexes.new (rows_of (versions_of versions.now.items))) }
 {
+    let from = versions.len();
     for (j, row) in rows.iter().enumerate() {
-        indexes.enter(seats, from + j, row, EVER)?;
+        let lender = lender_at(lenders, j, base);
+        enter_one(indexes, seats, loans, lender, from + j, row)?;
     }
     Ok(())
 }
 
-/// Enters the new rows after those of the versions. Fails if out of memory; then none of them is entered.
+/// Enters the new rows after those of the versions. Each may take over the row slot of the version at the position in
+/// `lenders` with the same number. Fails if out of memory; then none of them is entered.
 pub fn enter_rows<I: IntervalIndex>(
     seats: &mut Seats,
     indexes: &mut ValueIndexes<I>,
+    loans: &mut Vec<Loan, Memory>,
     versions: &Vec<Kept, Memory>,
     rows: &Vec<Row, Memory>,
+    lenders: &[usize],
+    base: usize,
 ) -> Result<(), AllocError>
     requires fits { vec_len versions.now + vec_len rows.now < 2 ^ 64 }
-    requires standing { AreStanding seats.old indexes.old (rows_of (versions_of versions.now.items)) }
-    ensures ok { OnOk result (AreStanding seats.new indexes.new
+    requires based { base ≤ length versions.now.items }
+    requires standing { AreLent base loans.old.items seats.old indexes.old (rows_of (versions_of versions.now.items)) }
+    ensures ok { OnOk result (AreLent base loans.new.items seats.new indexes.new
         (rows_of (versions_of versions.now.items) ++ cells_of rows.now.items)) }
-    ensures err { OnErr result (AreStanding seats.new indexes.new (rows_of (versions_of versions.now.items))) }
+    ensures more { OnOk result (AreMore (length versions.now.items) lenders.now loans.old.items loans.new.items) }
+    ensures err { OnErr result (AreLent base loans.new.items seats.new indexes.new
+        (rows_of (versions_of versions.now.items))) }
+    ensures kept { OnErr result (loans.new.items ≡ loans.old.items) }
 {
     if indexes.is_empty() {
         return Ok(());
@@ -103,45 +193,12 @@ pub fn enter_rows<I: IntervalIndex>(
     let to = from + rows.len();
     indexes.grow(to)?;
     seats.grow(to)?;
-    if let Err(error) = enter_each(indexes, seats, from, rows) {
-        indexes.leave(seats, from, to);
+    let lent = loans.len();
+    if let Err(error) = enter_each(indexes, seats, loans, versions, rows, lenders, base) {
+        take_back(indexes, seats, loans, lent, from, to);
         return Err(error);
     }
     Ok(())
-}
-
-/// Removes the new rows after those of the versions again. Allocates no memory.
-pub fn leave_back<I: IntervalIndex>(
-    indexes: &mut ValueIndexes<I>,
-    seats: &Seats,
-    versions: &Vec<Kept, Memory>,
-    rows: &Vec<Row, Memory>,
-)
-    requires fits { vec_len versions.now + vec_len rows.now < 2 ^ 64 }
-    requires standing { AreStanding seats.now indexes.old
-        (rows_of (versions_of versions.now.items) ++ cells_of rows.now.items) }
-    ensures { AreStanding seats.now indexes.new (rows_of (versions_of versions.now.items)) }
-{
-    if !indexes.is_empty() {
-        let from = versions.len();
-        indexes.leave(seats, from, from + rows.len());
-    }
-}
-
-/// Removes the rows from a position on from the indexes. Allocates no memory.
-pub fn leave_rows<I: IntervalIndex>(
-    indexes: &mut ValueIndexes<I>,
-    seats: &Seats,
-    versions: &Vec<Kept, Memory>,
-    from: usize,
-)
-    requires within { from ≤ length versions.now.items }
-    requires standing { AreStanding seats.now indexes.old (rows_of (versions_of versions.now.items)) }
-    ensures { AreStanding seats.now indexes.new (rows_of (versions_of (take from versions.now.items))) }
-{
-    if !indexes.is_empty() {
-        indexes.leave(seats, from, versions.len());
-    }
 }
 
 /// Removes the row at a position from the indexes if its version is closed. Allocates no memory.
