@@ -8,7 +8,7 @@ ghost use Rattle.tql_store_index.specs.Basis.{stands_by};
 ghost use Rattle.tql_store_index.specs.Seating.{seat_at};
 ghost use Rattle.tql_store_index.specs.Standing.{passes, seats_if, stands};
 ghost use Rattle.tql_store_index.specs.ValueIndexes.{Each, IsGrown, IsTurned, IsLinked, DiffersIn, AreLoose};
-ghost use Rattle.tql_store_index.specs.ValueIndexes.{HasPeriod, IsFoundBy, StandsAs, index_at};
+ghost use Rattle.tql_store_index.specs.ValueIndexes.{HasPeriod, IsCleared, IsFoundBy, StandsAs, index_at};
 ghost use Rattle.tql_value.specs.Views.{datum_of_view};
 
 use crate::basis::{Basis, Sought};
@@ -75,6 +75,13 @@ impl<I: IntervalIndex> ValueIndex<I> {
     {
         let span = self.basis.span(row, during);
         self.index.link(seat, span)
+    }
+
+    /// Removes all rows and row slots from the index. Allocates no memory, and frees that of the index.
+    fn clear(&mut self, memory: Memory)
+        ensures { IsCleared self.old self.new }
+    {
+        self.index = SeatIndex::new(memory);
     }
 
     /// Whether a row slot has the period under which this row is entered.
@@ -200,6 +207,15 @@ impl<I: IntervalIndex> ValueIndex<I> {
         let mut found = self.candidates(sought, during)?;
         seats.place_each(&mut found);
         Ok(found)
+    }
+}
+
+/// Empties each index.
+fn clear_each<I: IntervalIndex>(indexes: &mut [ValueIndex<I>], memory: Memory)
+    ensures { Each IsCleared indexes.old indexes.new }
+{
+    for i in 0..indexes.len() {
+        indexes[i].clear(memory);
     }
 }
 
@@ -365,6 +381,13 @@ impl<I: IntervalIndex> ValueIndexes<I> {
             ≡ stands_by (index_at self.old i).basis (filed row.now (points_of during))) }
     {
         enter_each(&mut self.indexes, seats, place, row, during)
+    }
+
+    /// Removes all rows and row slots from each index. Allocates no memory, and frees that of the indexes.
+    pub fn clear(&mut self, memory: Memory)
+        ensures { Each IsCleared self.old self.new }
+    {
+        clear_each(&mut self.indexes, memory);
     }
 
     /// Whether there is a row slot at a position that has a period in some index.
