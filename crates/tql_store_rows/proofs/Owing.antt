@@ -4,7 +4,7 @@ use Rattle.std.proofs.Common.{sym, ap, subst, ◌∙◌, arith, inl, inr, take, 
 use Rattle.std.proofs.Math.Seq.{drop-append_seam, take-append_seam}
 use Rattle.std.specs.Prelude.{◌⊎◌, ◌≢◌, None}
 use Rattle.std.proofs.lemmas.Bool.{cases_lt}
-use Rattle.std.proofs.lemmas.List.{drop_more, get_or-map, get_or_append_left, length-drop, length-map, map-append, take_more}
+use Rattle.std.proofs.lemmas.List.{drop_more, get_or_default, get_or-map, get_or_append_left, length-drop, length-map, map-append, take_more}
 use Rattle.tql_spec.proofs.MemberLists.{in_either, in_left, in_right}
 use Rattle.tql_spec.specs.Bag.{In}
 use Rattle.tql_store_index.proofs.Seated.{apart}
@@ -15,12 +15,13 @@ use Rattle.tql_store_rows.proofs.Naming.{in_at}
 use Rattle.tql_versions.specs.Changes.{nothing}
 use Rattle.tql_store_index.specs.Seating.{Seating, seat_at, AreSwapped}
 use Rattle.tql_store_index.specs.Standing.{stands}
-use Rattle.tql_store_index.specs.ValueIndexes.{ValueIndex, index_at, Each, AreLoose, IsTurned}
+use Rattle.tql_store_index.specs.ValueIndexes.{ValueIndex, index_at, Each, AreLoose, IsCleared, IsTurned, nowhere}
 use Rattle.tql_store_rows.proofs.Loans.{apart_parts, paired_front}
 use Rattle.tql_store_index.proofs.Linking.{same_turned}
 use Rattle.tql_store_rows.proofs.RowsStanding.{all-length, at_all, front-length, kept-rows, past_end, rows-parts}
+use Rattle.tql_store_rows.proofs.RowsStanding.{standing_none}
 use Rattle.tql_store_rows.specs.Loans.{AreApart, AreLent, AreMore, AreOwing, ArePaired, IsEntry, IsLent, IsOwing, Lends}
-use Rattle.tql_store_rows.specs.RowsStanding.{all_of, rows_of, stands_ever}
+use Rattle.tql_store_rows.specs.RowsStanding.{AreStanding, all_of, rows_of, stands_ever}
 use Rattle.tql_versions.specs.Views.{version_of, versions_of}
 use Rattle.tql_versions.specs.declared.kept.Kept.{Kept}
 use Rattle.tql_store_rows.specs.declared.borrowing.Loan.{Loan}
@@ -286,6 +287,20 @@ owing_nowhere base from to kept s indexes rows e h = record {
   pairs = subst (λ n. ArePaired base n kept) (sym h.size) h.pairs;
   each = λ i l. absurd (omega (arith, e, l));
 }
+
+-- all rows have been removed, with the indexes and the row slots
+pub owing_cleared : (base all : ℕ) (loans : List Loan) (s t : Seating) (old new : List ValueIndex)
+    (rows : List Filed) → base ≡ 0 → t ≡ record { seats = []; places = [] } → Each IsCleared old new
+    → AreOwing base base all [] loans s old rows → AreStanding t new rows
+owing_cleared base all loans s t old new rows e f cleared h =
+    subst (AreStanding t new) (sym (none rows (let n = h.size in omega (arith, n, e))))
+    (standing_none t new f (λ i d l.
+    subst (λ (k : ValueIndex). k.standing ≡ []) (sym (get_or_default new i d nowhere l))
+    (cleared.1 i (let n = cleared.0 in omega (arith, n, l))).empty))
+  where
+    none : (xs : List Filed) → length xs ≡ 0 → xs ≡ []
+    none [] q = refl
+    none (x ∷ xs) q = absurd (omega (arith, q))
 
 -- ---- a loan is settled
 

@@ -8,7 +8,7 @@ ghost use Rattle.std.specs.Prelude.{◌≡◌, ◌≢◌, ◌<◌, ◌≤◌, �
 ghost use Rattle.std.specs.Prelude.{if◌then◌else◌, length, take, drop, vec_len};
 ghost use Rattle.tql_store_index.specs.ValueIndexes.{index_at};
 ghost use Rattle.tql_store_rows.specs.Loans.{AreLent, AreOwing, IsFront};
-ghost use Rattle.tql_store_rows.specs.RowsStanding.{rows_of};
+ghost use Rattle.tql_store_rows.specs.RowsStanding.{AreStanding, rows_of};
 ghost use Rattle.tql_versions.specs.Views.{versions_of};
 
 use crate::standing::EVER;
@@ -62,6 +62,31 @@ pub fn take_back<I: IntervalIndex>(
     loans.truncate(kept);
     if !indexes.is_empty() {
         indexes.leave(seats, from, to);
+    }
+}
+
+/// Takes back all loans, and removes the rows at positions `base..all` from the indexes. If these are all rows, the
+/// indexes and the row slots are freed as a whole. Allocates no memory.
+pub fn undo_rows<I: IntervalIndex>(
+    indexes: &mut ValueIndexes<I>,
+    seats: &mut Seats,
+    loans: &mut Vec<Loan, Memory>,
+    base: usize,
+    all: usize,
+    memory: Memory,
+)
+    requires rises { base ≤ all }
+    requires room { 0 < length indexes.old → all ≤ length seats.old.seats }
+    ensures loans { loans.new.items ≡ [] }
+    ensures standing { (rows : _) → AreOwing base base all [] loans.old.items seats.old indexes.old rows
+        → AreStanding seats.new indexes.new rows }
+{
+    if base == 0 {
+        loans.clear();
+        *seats = Seats::new(memory);
+        indexes.clear(memory);
+    } else {
+        take_back(indexes, seats, loans, 0, base, all);
     }
 }
 
