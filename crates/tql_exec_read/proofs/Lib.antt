@@ -1,4 +1,5 @@
 pub mod ByColumns
+pub mod Joinings
 pub mod Looked
 pub mod OneOf
 pub mod Open

@@ -2,7 +2,8 @@
 use Rattle.std.proofs.Common.{◌≡◌, ℕ, ◌+◌, ◌<◌, Bool, true, false, cond, List, [], ◌∷◌, ◌++◌, map, drop, length}
 use Rattle.std.proofs.Common.{append_assoc, refl, sym, ap, subst, ◌∙◌}
 use Rattle.std.specs.Prelude.{Option, Some, None, slice_index_or}
-use Rattle.std.proofs.lemmas.List.{append-nil, drop_more}
+use Rattle.std.proofs.lemmas.List.{append-nil, drop_more, map-append}
+use Rattle.std.proofs.lemmas.List.Elements.{filter-append}
 use Rattle.tql_spec.specs.Bag.{SameBag}
 use Rattle.tql_spec.specs.Datum.{Row}
 use Rattle.tql_spec.specs.Definition.{Version}
@@ -32,6 +33,12 @@ pub open_now : (h : StoreModel) (s : Scan) (vs : List Version) → IsReadable h 
 open_now h s vs readable now rows copies working r =
     subst (λ (w : When). SameBag (open_ones vs) (found w (seen_by h.working copies working s.table))) (sym now)
     (rows.copies (subst (λ (w : When). is_before h.horizon w ≡ false) now readable.within) copies working r)
+
+-- the open ones of two lists of versions
+pub open_both : (xs ys : List Kept)
+    → open_ones (versions_of (xs ++ ys)) ≡ open_ones (versions_of xs) ++ open_ones (versions_of ys)
+open_both xs ys =
+    ap open_ones (map-append version_of xs ys) ∙ filter-append (is_answer Now) (versions_of xs) (versions_of ys)
 
 -- the rows of the open versions
 abbrev pub rows_of : (Version → Row) → List Kept → List Row

@@ -10,12 +10,11 @@ use Rattle.tql_spec.specs.Definition.{System, Version}
 use Rattle.tql_spec.specs.Expression.{Cond}
 use Rattle.tql_spec.specs.Query.{keep}
 use Rattle.tql_spec.specs.Words.{kept_if}
-use Rattle.tql_value.specs.declared.when.When.TheVariants.{Now}
 use Rattle.tql_expr.specs.Generated.{generated}
 use Rattle.tql_expr.specs.Meaning as terms
 use Rattle.tql_exec_join.proofs.Handed.{kept_parts, together}
-use Rattle.tql_versions.specs.Readings.{is_answer, open_ones, version_shown}
-use Rattle.tql_versions.specs.Views.{version_of, versions_of}
+use Rattle.tql_versions.specs.Readings.{open_ones, version_shown}
+use Rattle.tql_versions.specs.Views.{versions_of}
 use Rattle.tql_versions.specs.declared.kept.Kept.{Kept}
 use Rattle.tql_versions.specs.declared.version.Version.{Version as Reading}
 use Rattle.tql_plan_access.specs.Access.{IsRow}
@@ -24,6 +23,7 @@ use Rattle.tql_plan_screen.specs.Screens.{admitted, is_admitted}
 use Rattle.tql_exec_read.specs.Filters.{asked, passed}
 use Rattle.tql_exec_read.specs.Found.{completed}
 use Rattle.tql_exec_read.specs.declared.pushing.Filter.{Filter}
+use Rattle.tql_exec_read.proofs.Open.{open_both}
 
 -- ---- one version
 
@@ -89,11 +89,6 @@ module _ (f : Filter) where
       → map shown (filter admits (xs ++ ys)) ≡ map shown (filter admits xs) ++ map shown (filter admits ys)
   admitted_both xs ys =
       ap (map shown) (filter-append admits xs ys) ∙ shown_both (filter admits xs) (filter admits ys)
-
-  open_both : (xs ys : List Kept)
-      → open_ones (versions_of (xs ++ ys)) ≡ open_ones (versions_of xs) ++ open_ones (versions_of ys)
-  open_both xs ys =
-      ap open_ones (map-append version_of xs ys) ∙ filter-append (is_answer Now) (versions_of xs) (versions_of ys)
 
   pub passed_parts : (xs ys : List Reading) → passed f (map version_shown (xs ++ ys))
       ≡ together (passed f (map version_shown xs)) (passed f (map version_shown ys))
