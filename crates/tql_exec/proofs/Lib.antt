@@ -7,6 +7,7 @@ pub mod ScanRows
 pub mod ByKey
 pub mod ByPeriod
 pub mod OverSinks
+pub mod LeftScans
 pub mod Crossed
 pub mod Counted
 pub mod Headings

@@ -9,3 +9,4 @@ mod pushing;
 pub mod running;
 mod sides;
 mod stepping;
+mod unlisted;

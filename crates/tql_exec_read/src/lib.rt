@@ -1,6 +1,6 @@
 //! Reads the rows of a table through a snapshot of the store: all rows of a scan, those that pass conjuncts, and those
-//! that a key or a period finds. The rows of one scan that pass WHERE are also handed to a sink, and so are the pairs of
-//! its rows with the inner rows of a join.
+//! that a key or a period finds. The rows of one scan that pass WHERE are also handed to a sink, and so are the pairs
+//! of its rows with the inner rows of a join.
 #![tactic(auto)]
 
 pub mod alternatives;
