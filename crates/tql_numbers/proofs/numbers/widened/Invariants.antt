@@ -1,5 +1,5 @@
 use Rattle.std.proofs.Common.{◌≡◌, take}
-use Rattle.tql_store_index.proofs.numbers.widened.Given as goal
+use Rattle.tql_numbers.proofs.numbers.widened.Given as goal
 
 -- the numbers so far are copied
 abbrev pub invariant-loop-number : goal.invariant-loop-number

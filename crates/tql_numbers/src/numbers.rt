@@ -9,7 +9,7 @@ use tql_memory::Memory;
 /// A list of numbers. Its model is that list. It takes 4 bytes a number as long as each is below 2^32, and 8 from then
 /// on.
 #[derive(Drop)]
-pub(crate) struct Numbers {
+pub struct Numbers {
     // Whether the list is in `wide`, else it is in `narrow`. The other one is empty.
     is_wide: bool,
     narrow: Vec<u32, Memory>,
@@ -57,7 +57,7 @@ fn wide_at(wide: &[usize], index: usize) -> usize
 
 impl Numbers {
     /// Creates an empty list.
-    pub(crate) fn new(memory: Memory) -> Numbers
+    pub fn new(memory: Memory) -> Numbers
         ensures { result ≡ [] }
     {
         Numbers {
@@ -68,7 +68,7 @@ impl Numbers {
     }
 
     /// Returns the number of numbers.
-    pub(crate) fn len(&self) -> usize
+    pub fn len(&self) -> usize
         ensures { result ≡ length self.now }
     {
         if self.is_wide {
@@ -79,7 +79,7 @@ impl Numbers {
     }
 
     /// Returns the number at an index, or 0 past the end.
-    pub(crate) fn at(&self, index: usize) -> usize
+    pub fn at(&self, index: usize) -> usize
         ensures { result ≡ slice_index_or self.now index 0 }
     {
         if self.is_wide {
@@ -90,7 +90,7 @@ impl Numbers {
     }
 
     /// Appends a number. If out of memory, nothing changes.
-    pub(crate) fn push(&mut self, number: usize) -> Result<(), AllocError>
+    pub fn push(&mut self, number: usize) -> Result<(), AllocError>
         ensures ok { OnOk result (self.new ≡ self.old ++ number ∷ []) }
         ensures err { OnErr result (self.new ≡ self.old) }
     {
@@ -112,7 +112,7 @@ impl Numbers {
     }
 
     /// Keeps the first `len` numbers.
-    pub(crate) fn truncate(&mut self, len: usize)
+    pub fn truncate(&mut self, len: usize)
         ensures { self.new ≡ take len self.old }
     {
         if self.is_wide {
@@ -123,7 +123,7 @@ impl Numbers {
     }
 
     /// Swaps the numbers at two indexes.
-    pub(crate) fn swap(&mut self, a: usize, b: usize)
+    pub fn swap(&mut self, a: usize, b: usize)
         requires a { a < length self.old }
         requires b { b < length self.old }
         ensures { self.new ≡ swap self.old a b }

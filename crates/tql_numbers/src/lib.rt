@@ -1,0 +1,4 @@
+//! Lists of numbers in little memory.
+#![tactic(auto)]
+
+pub mod numbers;
