@@ -13,7 +13,7 @@ use Rattle.tql_spec.specs.Bag.{SameBag, In}
 use Rattle.tql_spec.specs.Calendar.{high}
 use Rattle.tql_spec.specs.Datum.{Row}
 use Rattle.tql_spec.specs.Definition.{Stamped, Version}
-use Rattle.tql_store_rows.proofs.Counting.{once-first, once-tail}
+use Rattle.tql_standing.proofs.Counting.{once-first, once-tail}
 use Rattle.tql_store_rows.proofs.Turns.{eq_false, lt_true, first_place, later_place}
 use Rattle.tql_versions.specs.Changes.{alive, close_at, closing, ended, fresh, is_current, nothing}
 use Rattle.tql_store_rows.specs.TableModel as rows

@@ -14,9 +14,9 @@ use Rattle.tql_store_index.specs.Standing.{stands}
 use Rattle.tql_store_index.specs.ValueIndexes.{ValueIndex, index_at, Each, IsTurned}
 use Rattle.tql_store_rows.proofs.Loans.{lent_entered, lent_more}
 use Rattle.tql_store_rows.proofs.Owing.{owing_after}
-use Rattle.tql_store_rows.proofs.RowsStanding.{all-length, cells-length, past_end, rows-length}
+use Rattle.tql_standing.proofs.RowsStanding.{all-length, cells-length, past_end, rows-length}
 use Rattle.tql_store_rows.specs.Loans.{AreLent, AreMore, AreOwing, IsEntered, IsEntry, IsLoan}
-use Rattle.tql_store_rows.specs.RowsStanding.{all_of, cells_of, rows_of}
+use Rattle.tql_standing.specs.RowsStanding.{all_of, cells_of, rows_of}
 use Rattle.tql_store_rows.specs.declared.borrowing.Loan.{Loan}
 
 -- the first `j` rows have been entered after those of versions

@@ -19,10 +19,10 @@ use Rattle.tql_store_rows.proofs.Choosing.{chosen-marked}
 use Rattle.tql_store_rows.proofs.Hits.{hits, marked, marked-length, marked_hits, marked_not, marked_there, seats_hits}
 use Rattle.tql_store_rows.proofs.LentRows.{not_open}
 use Rattle.tql_store_rows.proofs.Loans.{lends_or}
-use Rattle.tql_store_rows.proofs.RowsStanding.{all-length, at_all, rows-length}
+use Rattle.tql_standing.proofs.RowsStanding.{all-length, at_all, rows-length}
 use Rattle.tql_store_rows.proofs.Sought.{same-list}
 use Rattle.tql_store_rows.specs.Loans.{AreAdded, AreLent, AreShut, FindsAll, IsLent, Lends, lending_places}
-use Rattle.tql_store_rows.specs.RowsStanding.{all_of, rows_of}
+use Rattle.tql_standing.specs.RowsStanding.{all_of, rows_of}
 use Rattle.tql_store_rows.specs.Wanted.{chosen, chosen_of}
 use Rattle.tql_store_rows.specs.declared.borrowing.Loan.{Loan}
 use Rattle.tql_value.specs.declared.when.When.{When}

@@ -10,9 +10,9 @@ use Rattle.tql_store_index.specs.Seating.{Seating}
 use Rattle.tql_store_index.specs.ValueIndexes.{ValueIndex, index_at}
 use Rattle.tql_store_rows.proofs.LentRows.{more_none}
 use Rattle.tql_store_rows.proofs.Owing.{owing_after}
-use Rattle.tql_store_rows.proofs.RowsStanding.{all-length, cells-length, kept-rows}
+use Rattle.tql_standing.proofs.RowsStanding.{all-length, cells-length, kept-rows}
 use Rattle.tql_store_rows.specs.Loans.{AreLent, AreMore, AreOwing}
-use Rattle.tql_store_rows.specs.RowsStanding.{cells_of, rows_of}
+use Rattle.tql_standing.specs.RowsStanding.{cells_of, rows_of}
 use Rattle.tql_store_rows.specs.declared.borrowing.Loan.{Loan}
 use Rattle.tql_versions.specs.Marks.{below, from}
 use Rattle.tql_versions.specs.Views.{versions_of}

@@ -16,12 +16,12 @@ use Rattle.tql_store_index.specs.Seating.{Seating, seat_at}
 use Rattle.tql_store_index.specs.Standing.{stands}
 use Rattle.tql_store_index.specs.ValueIndexes.{ValueIndex, index_at, Each, IsLinked}
 use Rattle.tql_store_rows.proofs.Loans.{lent_none}
-use Rattle.tql_store_rows.proofs.RowsStanding.{IsTold, all-length, all_held, at_all, at_held, held-length, kept-rows}
-use Rattle.tql_store_rows.proofs.RowsStanding.{none_held, past_end, rows-length}
+use Rattle.tql_standing.proofs.RowsStanding.{IsTold, all-length, all_held, at_all, at_held, held-length, kept-rows}
+use Rattle.tql_standing.proofs.RowsStanding.{none_held, past_end, rows-length}
 use Rattle.tql_store_rows.proofs.Turns.{at-closing, length-closing}
 use Rattle.tql_store_rows.specs.Loans.{AllStand, AreLent, AreListed, AreMore, AreShut, IsFront}
-use Rattle.tql_store_rows.specs.RowsStanding.{AreHeld, AreStanding, IsShut, IsShutAt, all_of, held_of, past_rows}
-use Rattle.tql_store_rows.specs.RowsStanding.{rows_of}
+use Rattle.tql_standing.specs.RowsStanding.{AreHeld, AreStanding, IsShut, IsShutAt, all_of, held_of, past_rows}
+use Rattle.tql_standing.specs.RowsStanding.{rows_of}
 use Rattle.tql_store_rows.specs.declared.borrowing.Loan.{Loan}
 use Rattle.tql_versions.specs.Changes.{closing, ended, fresh, is_current, nothing}
 use Rattle.tql_versions.specs.Places.{version_at}

@@ -10,7 +10,7 @@ use Rattle.tql_spec.proofs.MemberLists.{in_either}
 use Rattle.tql_spec.specs.Bag.{In}
 use Rattle.tql_spec.specs.Calendar.{high}
 use Rattle.tql_store_rows.proofs.Changing.{kept_place, removed_end}
-use Rattle.tql_store_rows.proofs.Counting.{listed-times, times, times-filter, times-listed}
+use Rattle.tql_standing.proofs.Counting.{listed-times, times, times-filter, times-listed}
 use Rattle.tql_store_rows.specs.Loans.{AreListed, AreMore, AreShut}
 use Rattle.tql_store_rows.specs.TableModel.{AreRemovable, InTurn, TableModel, named}
 use Rattle.tql_store_rows.specs.declared.borrowing.Loan.{Loan}

@@ -11,9 +11,9 @@ use Rattle.tql_store_index.specs.Basis.{Basis, Filed, stands_by}
 use Rattle.tql_store_index.specs.Seating.{Seating, seat_at, AreGrown}
 use Rattle.tql_store_index.specs.Standing.{stands}
 use Rattle.tql_store_index.specs.ValueIndexes.{ValueIndex, index_at, Each, IsGrown}
-use Rattle.tql_store_rows.proofs.RowsStanding.{all-length, past_end}
+use Rattle.tql_standing.proofs.RowsStanding.{all-length, past_end}
 use Rattle.tql_store_rows.specs.Loans.{AreApart, AreLent, ArePaired, IsEntry, IsLent, IsLoan, Lends}
-use Rattle.tql_store_rows.specs.RowsStanding.{AreStanding, all_of}
+use Rattle.tql_standing.specs.RowsStanding.{AreStanding, all_of}
 use Rattle.tql_store_rows.specs.declared.borrowing.Loan.{Loan}
 
 -- ---- lenders

@@ -18,10 +18,10 @@ use Rattle.tql_store_index.specs.Standing.{stands}
 use Rattle.tql_store_index.specs.ValueIndexes.{ValueIndex, index_at, Each, AreLoose, IsCleared, IsTurned, nowhere}
 use Rattle.tql_store_rows.proofs.Loans.{apart_parts, paired_front}
 use Rattle.tql_store_index.proofs.Linking.{same_turned}
-use Rattle.tql_store_rows.proofs.RowsStanding.{all-length, at_all, front-length, kept-rows, past_end, rows-parts}
-use Rattle.tql_store_rows.proofs.RowsStanding.{standing_none}
+use Rattle.tql_standing.proofs.RowsStanding.{all-length, at_all, front-length, kept-rows, past_end, rows-parts}
+use Rattle.tql_standing.proofs.RowsStanding.{standing_none}
 use Rattle.tql_store_rows.specs.Loans.{AreApart, AreLent, AreMore, AreOwing, ArePaired, IsEntry, IsLent, IsOwing, Lends}
-use Rattle.tql_store_rows.specs.RowsStanding.{AreStanding, all_of, rows_of, stands_ever}
+use Rattle.tql_standing.specs.RowsStanding.{AreStanding, all_of, rows_of, stands_ever}
 use Rattle.tql_versions.specs.Views.{version_of, versions_of}
 use Rattle.tql_versions.specs.declared.kept.Kept.{Kept}
 use Rattle.tql_store_rows.specs.declared.borrowing.Loan.{Loan}

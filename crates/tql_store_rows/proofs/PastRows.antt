@@ -12,18 +12,18 @@ use Rattle.tql_spec.specs.Period.{Period}
 use Rattle.tql_store_index.specs.Basis.{Filed, filed, stands_by}
 use Rattle.tql_store_index.specs.Seating.{Seating, AreGrown}
 use Rattle.tql_store_index.specs.ValueIndexes.{ValueIndex, index_at, Each, AreLoose, IsGrown, IsTurned}
-use Rattle.tql_store_rows.proofs.Counting.{times}
+use Rattle.tql_standing.proofs.Counting.{times}
 use Rattle.tql_store_rows.proofs.Numbering.{taken-is}
-use Rattle.tql_store_rows.proofs.RowsStanding.{standing_back, standing_less, standing_longer}
-use Rattle.tql_store_rows.proofs.RowsStanding.{standing_more, standing_nil, standing_none}
+use Rattle.tql_standing.proofs.RowsStanding.{standing_back, standing_less, standing_longer}
+use Rattle.tql_standing.proofs.RowsStanding.{standing_more, standing_nil, standing_none}
 use Rattle.tql_store_rows.proofs.Turns.{at-closing, length-closing}
 use Rattle.tql_versions.specs.Changes.{closing, ended, fresh, nothing, taken}
 use Rattle.tql_versions.specs.Marks.{below, from}
 use Rattle.tql_store_rows.proofs.LentRows.{free_stand, listed_front, none_front, shut_front}
 use Rattle.tql_store_rows.specs.Loans.{AllStand, AreLent, AreListed, AreShut, IsFront}
 use Rattle.tql_store_rows.specs.declared.borrowing.Loan.{Loan}
-use Rattle.tql_store_rows.specs.RowsStanding.{AreStanding, IsComing, IsFilled, Rises, ending, past_of}
-use Rattle.tql_store_rows.specs.RowsStanding.{past_rows, pasts_at, pasts_of, rows_of}
+use Rattle.tql_standing.specs.RowsStanding.{AreStanding, IsComing, IsFilled, Rises, ending, past_of}
+use Rattle.tql_standing.specs.RowsStanding.{past_rows, pasts_at, pasts_of, rows_of}
 use Rattle.tql_versions.specs.Places.{version_at}
 use Rattle.tql_store_rows.specs.TableModel.{TableModel, InTurn}
 use Rattle.tql_versions.specs.Views.{version_of, versions_of}

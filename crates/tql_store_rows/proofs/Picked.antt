@@ -17,7 +17,7 @@ use Rattle.tql_store_index.proofs.Seated.{apart}
 use Rattle.tql_store_index.specs.Seating.{Seating, seat_at}
 use Rattle.tql_store_index.specs.Standing.{seats_if, stands}
 use Rattle.tql_store_index.specs.ValueIndexes.{HasPeriod, ValueIndex, index_at}
-use Rattle.tql_store_rows.proofs.Counting.{times}
+use Rattle.tql_standing.proofs.Counting.{times}
 use Rattle.tql_store_rows.specs.Loans.{AreApart, Lends, lending_places}
 use Rattle.tql_store_rows.specs.Picked.{is_linked, picked, stands_at}
 use Rattle.tql_store_rows.specs.declared.borrowing.Loan.{Loan}

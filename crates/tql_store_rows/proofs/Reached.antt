@@ -20,15 +20,15 @@ use Rattle.tql_store_index.specs.Seating.{Seating, seat_at}
 use Rattle.tql_store_index.specs.Standing.{passes, seats_if, stands}
 use Rattle.tql_store_index.specs.ValueIndexes.{ValueIndex, index_at, IsFoundBy}
 use Rattle.tql_store_rows.proofs.Choosing.{past_passes}
-use Rattle.tql_store_rows.proofs.Counting.{times}
+use Rattle.tql_standing.proofs.Counting.{times}
 use Rattle.tql_store_rows.proofs.Lacking.{finds_listed, finds_more}
 use Rattle.tql_store_rows.proofs.Loans.{lends_or}
 use Rattle.tql_store_rows.proofs.PastRows.{pasts-length}
 use Rattle.tql_store_rows.proofs.Picked.{linked_false, linked_true, sum-picked}
-use Rattle.tql_store_rows.proofs.RowsStanding.{all-length, at_all, rows-length}
+use Rattle.tql_standing.proofs.RowsStanding.{all-length, at_all, rows-length}
 use Rattle.tql_store_rows.specs.Loans.{AreAdded, AreLent, AreListed, AreShut, FindsAll, IsLent, Lends, lending_places}
 use Rattle.tql_store_rows.specs.Picked.{is_linked, lenders_among, picked, stands_at}
-use Rattle.tql_store_rows.specs.RowsStanding.{all_of, past_of, past_rows, pasts_at, pasts_of, rows_of}
+use Rattle.tql_standing.specs.RowsStanding.{all_of, past_of, past_rows, pasts_at, pasts_of, rows_of}
 use Rattle.tql_store_rows.specs.Wanted.{AreSought, chosen, chosen_of}
 use Rattle.tql_store_rows.specs.declared.borrowing.Loan.{Loan}
 use Rattle.tql_value.specs.declared.when.When.{When}

@@ -9,7 +9,7 @@ use Rattle.tql_store_index.specs.Seating.{AreSwapped, Seating, seat_at}
 use Rattle.tql_store_index.specs.Standing.{stands}
 use Rattle.tql_store_index.specs.ValueIndexes.{Each, IsTurned, StandsAs, ValueIndex, index_at}
 use Rattle.tql_spec.specs.Period.{Period}
-use Rattle.tql_store_rows.specs.RowsStanding.{AreStanding, all_of, past_rows, rows_of}
+use Rattle.tql_standing.specs.RowsStanding.{AreStanding, all_of, past_rows, rows_of}
 use Rattle.tql_store_rows.specs.Wanted.{chosen_at, chosen_of}
 use Rattle.tql_store_rows.specs.declared.borrowing.Loan.{Loan}
 use Rattle.tql_value.specs.declared.when.When.{When}

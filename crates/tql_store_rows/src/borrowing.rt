@@ -8,7 +8,7 @@ ghost use Rattle.std.specs.Prelude.{◌≡◌, ◌≢◌, ◌<◌, ◌≤◌, �
 ghost use Rattle.std.specs.Prelude.{if◌then◌else◌, length, take, drop, vec_len};
 ghost use Rattle.tql_store_index.specs.ValueIndexes.{index_at};
 ghost use Rattle.tql_store_rows.specs.Loans.{AreLent, AreOwing, IsFront};
-ghost use Rattle.tql_store_rows.specs.RowsStanding.{AreStanding, rows_of};
+ghost use Rattle.tql_standing.specs.RowsStanding.{AreStanding, rows_of};
 ghost use Rattle.tql_versions.specs.Views.{versions_of};
 
 use crate::standing::EVER;

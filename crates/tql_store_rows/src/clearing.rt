@@ -2,7 +2,7 @@
 ghost use Rattle.std.specs.Prelude.{◌≡◌, ◌≢◌, ◌≤◌, ◌<◌, ◌+◌, All, false, length, slice_index_or, Contains};
 ghost use Rattle.std.specs.List.{swap_remove};
 ghost use Rattle.tql_store_index.specs.Seating.{AreSwapped};
-ghost use Rattle.tql_store_rows.specs.RowsStanding.{IsLess};
+ghost use Rattle.tql_standing.specs.RowsStanding.{IsLess};
 ghost use Rattle.tql_versions.specs.Changes.{is_current};
 ghost use Rattle.tql_versions.specs.Views.{version_of, versions_of, open_at};
 

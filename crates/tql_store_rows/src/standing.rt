@@ -7,7 +7,7 @@ ghost use Rattle.tql_store_index.specs.Seating.{seat_at};
 ghost use Rattle.tql_store_index.specs.Standing.{stands};
 ghost use Rattle.tql_store_index.specs.ValueIndexes.{Each, IsTurned, index_at};
 ghost use Rattle.tql_store_rows.specs.Loans.{AreLent, AreMore, AreOwing, IsEntered, IsLoan};
-ghost use Rattle.tql_store_rows.specs.RowsStanding.{IsShut, cells_of, rows_of};
+ghost use Rattle.tql_standing.specs.RowsStanding.{IsShut, cells_of, rows_of};
 ghost use Rattle.tql_versions.specs.Views.{versions_of};
 
 use crate::borrowing::{Loan, take_back};

@@ -2,7 +2,7 @@ use Rattle.std.proofs.Common.{◌≡◌, ◌-◌, ◌∙◌, length, take, rules
 use Rattle.std.proofs.lemmas.Grind.{common_steps}
 use Rattle.tql_store_rows.proofs.LentRows.{front_fewer}
 use Rattle.tql_store_rows.specs.Loans.{AreLent}
-use Rattle.tql_store_rows.specs.RowsStanding.{rows_of}
+use Rattle.tql_standing.specs.RowsStanding.{rows_of}
 use Rattle.tql_versions.specs.Views.{versions_of}
 use Rattle.tql_store_rows.proofs.borrowing.settle.Goals as goal
 

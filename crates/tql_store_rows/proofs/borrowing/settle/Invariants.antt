@@ -1,6 +1,6 @@
 use Rattle.std.proofs.Common.{◌<◌, length}
 use Rattle.tql_store_rows.specs.Loans.{AreLent, IsFront}
-use Rattle.tql_store_rows.specs.RowsStanding.{rows_of}
+use Rattle.tql_standing.specs.RowsStanding.{rows_of}
 use Rattle.tql_versions.specs.Views.{versions_of}
 use Rattle.tql_store_rows.proofs.borrowing.settle.Given as goal
 

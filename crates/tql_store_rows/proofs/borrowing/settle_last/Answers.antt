@@ -5,7 +5,7 @@ use Rattle.tql_store_index.specs.Places.{whole}
 use Rattle.tql_store_index.specs.ValueIndexes.{index_at}
 use Rattle.tql_store_rows.proofs.Owing.{has_last, row_read, settled_last, settled_not}
 use Rattle.tql_store_rows.specs.Loans.{AreLent}
-use Rattle.tql_store_rows.specs.RowsStanding.{rows_of}
+use Rattle.tql_standing.specs.RowsStanding.{rows_of}
 use Rattle.tql_versions.specs.Views.{versions_of}
 use Rattle.tql_store_rows.proofs.borrowing.settle_last.Goals as goal
 

@@ -1,6 +1,6 @@
 use Rattle.std.proofs.Common.{rules, arith, ◌∙◌}
 use Rattle.std.proofs.lemmas.Grind.{common_steps}
-use Rattle.tql_store_rows.proofs.Sweeping.{less_more, shut_read}
+use Rattle.tql_standing.proofs.Sweeping.{less_more, shut_read}
 use Rattle.tql_versions.specs.Views.{versions_of}
 use Rattle.tql_store_rows.proofs.clearing.clear_place.Goals as goal
 

@@ -1,5 +1,5 @@
 use Rattle.std.proofs.Common.{◌≡◌, ◌≢◌, ◌≤◌, ◌<◌, ℕ, length, get_or}
-use Rattle.tql_store_rows.specs.RowsStanding.{IsLess}
+use Rattle.tql_standing.specs.RowsStanding.{IsLess}
 use Rattle.tql_versions.specs.declared.kept.Kept.{Kept}
 use Rattle.tql_versions.specs.Views.{versions_of}
 use Rattle.tql_store_rows.proofs.clearing.clear_place.Given as goal

@@ -1,6 +1,6 @@
 use Rattle.std.proofs.Common.{◌-◌, rules, arith}
 use Rattle.std.proofs.lemmas.Grind.{common_steps}
-use Rattle.tql_store_rows.proofs.Sweeping.{less_one}
+use Rattle.tql_standing.proofs.Sweeping.{less_one}
 use Rattle.tql_store_rows.proofs.clearing.drop_version.Goals as goal
 
 pub returns-clause-less : goal.returns-clause-less

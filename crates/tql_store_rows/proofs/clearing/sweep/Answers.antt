@@ -1,5 +1,5 @@
 use Rattle.std.proofs.Common.{rules, arith, get_or}
-use Rattle.tql_store_rows.proofs.Sweeping.{Cleared, less_more, still_open, listed_step, listed_all}
+use Rattle.tql_standing.proofs.Sweeping.{Cleared, less_more, still_open, listed_step, listed_all}
 use Rattle.tql_versions.specs.Views.{versions_of}
 use Rattle.tql_store_rows.proofs.clearing.sweep.Goals as goal
 

@@ -1,6 +1,6 @@
 use Rattle.std.proofs.Common.{◌≡◌, ◌≤◌, ◌<◌, ℕ, length, get_or}
 use Rattle.std.specs.Prelude.{All}
-use Rattle.tql_store_rows.specs.RowsStanding.{IsLess}
+use Rattle.tql_standing.specs.RowsStanding.{IsLess}
 use Rattle.tql_versions.specs.Views.{versions_of, open_at}
 use Rattle.tql_store_rows.proofs.clearing.sweep.Given as goal
 

@@ -2,7 +2,7 @@ use Rattle.std.proofs.Common.{◌≡◌, true, false, rules, subst}
 use Rattle.std.specs.Prelude.{ℤ}
 use Rattle.std.proofs.Math.Facts.{to_z-of_z}
 use Rattle.tql_store_rows.proofs.Leaving.{past_dropped, stay_dropped, stay_here, told_twice}
-use Rattle.tql_store_rows.proofs.Steps.{swapped_out}
+use Rattle.tql_standing.proofs.Steps.{swapped_out}
 use Rattle.tql_versions.specs.Changes.{stays}
 use Rattle.tql_versions.specs.Views.{version_of}
 use Rattle.tql_store_rows.proofs.pruning.prune_at.Goals as goal

@@ -3,7 +3,7 @@ use Rattle.tql_spec.specs.Bag.{SameBag}
 use Rattle.tql_versions.specs.Changes.{left_by}
 use Rattle.tql_versions.specs.Views.{versions_of}
 use Rattle.tql_store_rows.specs.Pruned.{StayFrom}
-use Rattle.tql_store_rows.specs.RowsStanding.{AreStanding, pasts_of}
+use Rattle.tql_standing.specs.RowsStanding.{AreStanding, pasts_of}
 use Rattle.tql_store_rows.proofs.pruning.prune_closed.Given as goal
 
 -- the versions from the position on are kept

@@ -20,9 +20,9 @@ use Rattle.tql_store_index.specs.Basis.{Basis, Filed, filed, stands_by}
 use Rattle.tql_store_index.specs.Places.{whole}
 use Rattle.tql_store_index.specs.Seating.{Seating, seat_at, AreGrown, AreSwapped}
 use Rattle.tql_store_index.specs.Standing.{stands}
-use Rattle.tql_store_rows.specs.RowsStanding.{AreStanding, AreHeld, IsShut, IsShutAt, rows_of}
+use Rattle.tql_standing.specs.RowsStanding.{AreStanding, AreHeld, IsShut, IsShutAt, rows_of}
 use Rattle.tql_versions.specs.Places.{version_at}
-use Rattle.tql_store_rows.specs.RowsStanding.{all_of, held_in, held_of, stands_ever, IsComing, cells_of}
+use Rattle.tql_standing.specs.RowsStanding.{all_of, held_in, held_of, stands_ever, IsComing, cells_of}
 use Rattle.tql_versions.specs.Changes.{is_current, emptied, moved_out, nothing}
 use Rattle.tql_versions.specs.Views.{version_of, versions_of}
 use Rattle.tql_versions.specs.declared.kept.Kept.{Kept}

@@ -1,0 +1,5 @@
+pub mod Counting
+pub mod Entering
+pub mod RowsStanding
+pub mod Steps
+pub mod Sweeping
