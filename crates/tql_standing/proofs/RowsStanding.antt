@@ -473,7 +473,8 @@ shut_stepped ks ls s places ps j p a b c room l e f g h i =
 
 -- ---- only versions that pass a test are entered
 
-pub held-length : (test : Version → Bool) (basis : Basis) (vs : List Version) → length (held_of test basis vs) ≡ length vs
+pub held-length : (test : Version → Bool) (basis : Basis) (vs : List Version)
+    → length (held_of test basis vs) ≡ length vs
 held-length test basis vs = length-map vs (held_in test basis)
 
 pub at_all : (basis : Basis) (vs : List Version) (k : ℕ) → k < length vs

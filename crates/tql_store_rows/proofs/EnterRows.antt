@@ -89,7 +89,8 @@ pub entered_step : (base j place : ℕ) (places : List ℕ) (vs : List Version) 
     → IsEntered lender place (filed row whole) loans after t u now new
     → AreEntered base j places vs rows was loans s t old now
     → AreEntered base (j + 1) places vs rows was after s u old new
-entered_step base j place places vs rows row lender was loans after s t u old now new l read at low room allowed done h =
+entered_step base j place places vs rows row lender was loans after s t u old now new l read at low room allowed done
+    h =
     elim done [
       | inl d ↦
           let may : (d.0 < base) × Contains places d.0 =

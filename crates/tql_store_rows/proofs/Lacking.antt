@@ -1,5 +1,6 @@
 -- What a lookup finds of the current versions while some have lent their row slots.
-use Rattle.std.proofs.Common.{◌≡◌, ℕ, zero, suc, ◌+◌, ◌<◌, ◌≤◌, Bool, true, false, List, [], ◌∷◌, ◌++◌, length, refl, sym}
+use Rattle.std.proofs.Common.{◌≡◌, ℕ, zero, suc, ◌+◌, ◌<◌, ◌≤◌, Bool, true, false, List, [], ◌∷◌, ◌++◌, length}
+use Rattle.std.proofs.Common.{refl, sym}
 use Rattle.std.proofs.Common.{ap, subst, ◌∙◌, arith, inl, inr, map, get_or}
 use Rattle.std.specs.Prelude.{◌⊎◌, ◌&&◌, Option, Some, None, Vec, IfSome, nat_lt}
 use Rattle.std.proofs.lemmas.Bool.{cases_lt}

@@ -4,7 +4,8 @@ use Rattle.std.proofs.Common.{sym, ap, subst, ◌∙◌, arith, inl, inr, take, 
 use Rattle.std.proofs.Math.Seq.{drop-append_seam, take-append_seam}
 use Rattle.std.specs.Prelude.{◌⊎◌, ◌≢◌, None}
 use Rattle.std.proofs.lemmas.Bool.{cases_lt}
-use Rattle.std.proofs.lemmas.List.{drop_more, get_or_default, get_or-map, get_or_append_left, length-drop, length-map, map-append, take_more}
+use Rattle.std.proofs.lemmas.List.{drop_more, get_or_default, get_or-map, get_or_append_left, length-drop, length-map}
+use Rattle.std.proofs.lemmas.List.{map-append, take_more}
 use Rattle.tql_spec.proofs.MemberLists.{in_either, in_left, in_right}
 use Rattle.tql_spec.specs.Bag.{In}
 use Rattle.tql_store_index.proofs.Seated.{apart}
@@ -400,7 +401,8 @@ settled_not base loans o s t u old now new rows w v one two loose last g = recor
             let c = g.pairs.within o last in omega (arith, r, p, q, c, all-length b rows),
         let r = x.room in let c = g.pairs.within o last in omega (arith, r, c, all-length b rows),
       ) in
-      let same : (k : ℕ) → k < length s.seats → seat_at u k ≡ seat_at s k = λ k c. back s t u o.lender o.borrower k w v in
+      let same : (k : ℕ) → k < length s.seats → seat_at u k ≡ seat_at s k
+      = λ k c. back s t u o.lender o.borrower k w v in
       -- the periods of the row slots have not changed
       let kept : (k : ℕ) → k < length s.seats
       → stands (index_at new i).standing (seat_at s k) ≡ stands (index_at old i).standing (seat_at s k) =

@@ -1,5 +1,6 @@
 -- Lenders that a lookup of past rows finds.
-use Rattle.std.proofs.Common.{◌≡◌, ◌≢◌, ℕ, zero, suc, ◌+◌, ◌-◌, ◌*◌, ◌<◌, ◌≤◌, Bool, true, false, cond, List, [], ◌∷◌, ◌++◌}
+use Rattle.std.proofs.Common.{◌≡◌, ◌≢◌, ℕ, zero, suc, ◌+◌, ◌-◌, ◌*◌, ◌<◌, ◌≤◌, Bool, true, false, cond, List, []}
+use Rattle.std.proofs.Common.{◌∷◌, ◌++◌}
 use Rattle.std.proofs.Common.{length, refl, sym, ap, ◌∙◌, arith, inl, inr, map, flat_map, get_or, drop}
 use Rattle.std.proofs.Common.{append_assoc}
 use Rattle.std.specs.Prelude.{◌⊎◌, Option, Some, None, ◌&&◌, ◌||◌, is_some, nat_eq, nat_lt}
@@ -29,7 +30,8 @@ linked_true seat [] h = absurd (let w = h.within in omega (arith, w))
 linked_true seat (k ∷ indexes) h =
     go (λ x. linked_true seat indexes x) (stands k.standing seat) refl h.number h.within h.some
   where
-    go : (HasPeriod seat indexes → is_linked seat indexes ≡ true) → (o : Option Period) → stands k.standing seat ≡ o → (i : ℕ) → i < length (k ∷ indexes)
+    go : (HasPeriod seat indexes → is_linked seat indexes ≡ true) → (o : Option Period) → stands k.standing seat ≡ o
+        → (i : ℕ) → i < length (k ∷ indexes)
         → stands (index_at (k ∷ indexes) i).standing seat ≢ None → (is_some o || is_linked seat indexes) ≡ true
     go next (Some x) e i l f = refl
     go next None e zero l f = absurd (f e)
@@ -216,7 +218,8 @@ picked_front n ended linked w k l =
 picked_there : (n : ℕ) (ended : List ℕ) (linked : ℕ → Bool) (w : ℕ → ℕ) (i : ℕ) → i < length ended
     → sum_by w (picked n ended linked (n + i)) ≡ cond (linked (get_or ended i 0)) 0 (w (get_or ended i 0))
 picked_there n ended linked w i l =
-    ap (λ b. sum_by w (cond b [] (cond (nat_lt (n + i - n) (length ended)) (cond (linked (get_or ended (n + i - n) 0)) []
+    ap (λ b. sum_by w (cond b [] (cond (nat_lt (n + i - n) (length ended))
+    (cond (linked (get_or ended (n + i - n) 0)) []
     (get_or ended (n + i - n) 0 ∷ [])) []))) (not_below (n + i) n (omega arith))
     ∙ ap (λ j. sum_by w (cond (nat_lt j (length ended)) (cond (linked (get_or ended j 0)) []
     (get_or ended j 0 ∷ [])) [])) (let e : n + i - n ≡ i = omega arith in e)

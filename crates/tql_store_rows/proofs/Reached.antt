@@ -172,7 +172,8 @@ reached when s base loans seats indexes vs closed ended places past y w b shares
         ⊎ (cond (stands_at seats indexes i) 0 (weight i) ≡ 0)
     of_lender i z = by_bool (told_by (chosen when s) (version_at vs i))
         (λ t. inl (past_passes when s y (version_at vs i ∷ []) shares
-        (λ v m. here v m (subst (λ k. (version_at vs k).end <ℤ high) z.2 (low z.0 z.1))) b e (version_at vs i) (inl refl) t))
+        (λ v m. here v m (subst (λ k. (version_at vs k).end <ℤ high) z.2 (low z.0 z.1))) b e (version_at vs i)
+        (inl refl) t))
         (λ t. inr (unlinked (stands_at seats indexes i) i (untold i t)))
       where
         here : (v : definition.Version) → In v (version_at vs i ∷ []) → (version_at vs i).end <ℤ high → v.end <ℤ high

@@ -40,8 +40,8 @@ fn give_back(seats: &mut Seats, loans: &[Loan])
     }
 }
 
-/// Takes back the loans after the first `kept`, and removes the rows at positions `from..to` from the indexes. Allocates
-/// no memory.
+/// Takes back the loans after the first `kept`, and removes the rows at positions `from..to` from the indexes.
+/// Allocates no memory.
 pub fn take_back<I: IntervalIndex>(
     indexes: &mut ValueIndexes<I>,
     seats: &mut Seats,
@@ -145,8 +145,8 @@ fn settle<I: IntervalIndex>(
     Ok(())
 }
 
-/// Whether a change may lend row slots: it ends `removed` versions, of which the open transaction added none, and none of
-/// the versions that it added is recorded as dead.
+/// Whether a change may lend row slots: it ends `removed` versions, of which the open transaction added none, and none
+/// of the versions that it added is recorded as dead.
 pub fn may_lend(dead: usize, below: usize, removed: usize) -> bool
     ensures { result ≡ true → (dead ≡ 0) × (below ≡ removed) }
 {

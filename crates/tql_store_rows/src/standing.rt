@@ -76,8 +76,8 @@ fn lender_at(lenders: &[usize], number: usize, base: usize) -> Option<usize>
     }
 }
 
-/// Lets the row at the position `place` take over the row slot of a version, if the indexes have it under the periods of
-/// the row. Returns whether they do. If out of memory, nothing changes.
+/// Lets the row at the position `place` take over the row slot of a version, if the indexes have it under the periods
+/// of the row. Returns whether they do. If out of memory, nothing changes.
 fn borrow_seat<I: IntervalIndex>(
     indexes: &ValueIndexes<I>,
     seats: &mut Seats,

@@ -7,7 +7,8 @@ use Rattle.tql_store_rows.proofs.borrowing.undo_rows.Goals as goal
 pub returns-then-base-eq0-clause-standing : goal.returns-then-base-eq0-clause-standing
 returns-then-base-eq0-clause-standing g c = λ rows h.
     owing_cleared c.args.base c.args.all c.args.loans.now.items c.args.seats.now c.new.result c.args.indexes.now
-    c.clear-then-base-eq0.new.self rows (first_of (search rules, grind (arith, common_steps))) (search rules) c.clear-then-base-eq0.ensures h
+    c.clear-then-base-eq0.new.self rows (first_of (search rules, grind (arith, common_steps))) (search rules)
+    c.clear-then-base-eq0.ensures h
 
 pub returns-else-base-eq0-clause-standing : goal.returns-else-base-eq0-clause-standing
 returns-else-base-eq0-clause-standing g c = λ rows h.
