@@ -29,7 +29,14 @@ pub(crate) struct Compared<'a> {
 fn holds(sign: Comparison, number: i64, literal: i64) -> bool
     ensures { result ≡ accepts (plain_comparison sign) (int_cmp number literal) }
 {
-    sign.accepts(number.cmp(&literal))
+    match sign {
+        Comparison::Equal => number == literal,
+        Comparison::NotEqual => number != literal,
+        Comparison::Less => number < literal,
+        Comparison::LessOrEqual => number <= literal,
+        Comparison::Greater => number > literal,
+        Comparison::GreaterOrEqual => number >= literal,
+    }
 }
 
 /// Whether the stored cells of a row meet a comparison. Numbers, days and moments are compared in place.
