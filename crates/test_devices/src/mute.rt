@@ -2,8 +2,8 @@
 use std::alloc::AllocError;
 use std::marker::Model;
 use tql_index::index::{Id, IntervalIndex};
-use tql_index::list_index::ListIndex;
 use tql_index::span::Span;
+use tql_list_index::list_index::ListIndex;
 use tql_memory::Memory;
 use tql_period::period::Period;
 

@@ -4,9 +4,9 @@ use crate::parts::{count, int, period, write_yes};
 use crate::stop::Stop;
 use std::alloc::AllocError;
 use tql_index::index::{Id, IntervalIndex};
-use tql_index::list_index::ListIndex;
 use tql_index::span::Span;
 use tql_index::tree_index::TreeIndex;
+use tql_list_index::list_index::ListIndex;
 use tql_memory::Memory;
 use tql_period::period::Period;
 

@@ -10,8 +10,8 @@ ghost use Rattle.tql_index.specs.Slots.{entry_of, entries_in, HasEnds};
 ghost use Rattle.tql_index.specs.Spans.{points_between};
 ghost use Rattle.tql_index.specs.Tree.{greatest_end, IsInOrder, IsPlace, IsSide, StartsLate, WasGreatest};
 
+use crate::index::push_if;
 use crate::line::Place;
-use crate::search::push_if;
 use crate::slot::Slot;
 use crate::span::Span;
 use std::alloc::{AllocError, Allocator};

@@ -48,7 +48,7 @@ impl Span {
     }
 
     /// Whether the span shares a point with the line from one place up to another.
-    pub(crate) fn shares(self, from: Place, to: Place) -> bool
+    pub fn shares(self, from: Place, to: Place) -> bool
         ensures { result ≡ share_a_point (span_of self) (points_between from to) }
     {
         if !from.is_before(to) {
@@ -58,7 +58,7 @@ impl Span {
     }
 
     /// Returns the first point.
-    pub(crate) fn start(self) -> Place
+    pub fn start(self) -> Place
         ensures { place_of result ≡ (span_of self).start }
     {
         Place {
@@ -68,7 +68,7 @@ impl Span {
     }
 
     /// Returns the point after the last one.
-    pub(crate) fn end(self) -> Place
+    pub fn end(self) -> Place
         ensures { place_of result ≡ (span_of self).end }
     {
         Place {

@@ -4,8 +4,8 @@ use std::alloc::AllocError;
 use std::process::Abort;
 use std::test::Fail;
 use tql_index::index::IntervalIndex;
-use tql_index::list_index::ListIndex;
 use tql_index::tree_index::TreeIndex;
+use tql_list_index::list_index::ListIndex;
 use tql_memory::{Memory, memory};
 use tql_period::period::Period;
 

@@ -6,13 +6,12 @@ ghost use Rattle.tql_index.specs.Entry.{ids_sharing};
 ghost use Rattle.tql_index.specs.Slots.{entry_of};
 ghost use Rattle.tql_index.specs.Spans.{points_between};
 
-use crate::index::{Id, IntervalIndex};
-use crate::line::Place;
-use crate::search::push_if;
-use crate::slot::Slot;
-use crate::span::Span;
 use std::alloc::AllocError;
 use std::marker::Model;
+use tql_index::index::{Id, IntervalIndex, push_if};
+use tql_index::line::Place;
+use tql_index::slot::Slot;
+use tql_index::span::Span;
 use tql_memory::Memory;
 use tql_period::period::Period;
 
