@@ -100,12 +100,6 @@ first_order m l n r t q e h =
     ap (λ z. m ++ z) (e ∙ ap (λ z. z ++ (n ++ r)) q) ∙ sym (append_assoc m n r) in
     order_left (m ++ n) r (in_order_as (m ++ t) ((m ++ n) ++ r) w h)
 
--- a run that is still empty has no entries to its right
-pub nothing_right : (l m r k : List Entry) → r ≡ [] → (0 < length m → 0 < length k) → length k ≡ 0
-    → l ++ (m ++ r) ≡ l
-nothing_right l [] r k q f h = ap (λ z. l ++ z) q ∙ append-nil l
-nothing_right l (e ∷ m) r k q f h = absurd (omega (arith, f (omega arith), h))
-
 -- ---- a left side l that is one run s is joined to the run after it
 
 pub one_run : (x s y l : List Entry) → x ≡ [] → y ≡ [] → l ≡ x ++ (s ++ y) → l ≡ s

@@ -1,11 +1,13 @@
 use Rattle.std.specs.Int.{int_max}
-use Rattle.std.proofs.Common.{ap, ◌∙◌}
+use Rattle.std.proofs.Common.{arith, ap, ◌∙◌}
 use Rattle.tql_index.specs.Line.{place_of}
+use Rattle.tql_index.specs.Slots.{entry_of}
 use Rattle.tql_index.proofs.Runs.{end_more}
 use Rattle.tql_index.proofs.run.last_end.Goals as goal
 
-pub loop-slot-preserved : goal.loop-slot-preserved
-loop-slot-preserved c =
-    end_more c.args.slots.now c.loop-slot.slot-index c.slot-item.result (place_of c.loop-slot.end)
-    (place_of c.later-end.result) c.loop-slot.invariant c.slot-item.is c.loop-slot-test.true
-    (c.later-end.ensures ∙ ap (λ z. int_max (place_of c.loop-slot.end) z) c.end.ensures)
+pub loop-place-preserved : goal.loop-place-preserved
+loop-place-preserved g c =
+    let x = entry_of c.at.result in
+    end_more c.args.slots.now c.loop-place.place x (place_of c.loop-place.end) (place_of c.later-end.result)
+    c.loop-place.invariant (c.at.ensures x) (omega (arith, c.loop-place-test.true, c.len-place-end.ensures))
+    (c.later-end.ensures ∙ ap (λ z. int_max (place_of c.loop-place.end) z) c.end.ensures)
