@@ -28,7 +28,7 @@ use Rattle.tql_bound.specs.Queries.{bound_query_of}
 use Rattle.tql_bound.specs.declared.query.BoundQuery.{BoundQuery}
 use Rattle.tql_expr.proofs.Printing.{RowsPrint}
 use Rattle.tql_expr.proofs.QueryPrinting.{AllPrint, answers_print, items_literals}
-use Rattle.tql_exec_join.specs.Bags.{IsBag}
+use Rattle.tql_exec_pairs.specs.Bags.{IsBag}
 use Rattle.tql_catalog.specs.Tables.{definitions_of}
 use Rattle.tql_catalog.specs.declared.catalog.Table.{Table}
 use Rattle.tql_engine_state.specs.Allowed.{IsAllowed}

@@ -17,7 +17,7 @@ use Rattle.tql_bound.specs.Queries.{bound_query_of}
 use Rattle.tql_bound.specs.declared.change.QueryInsertion.{QueryInsertion}
 use Rattle.tql_catalog.specs.Rows.{IsRowOf}
 use Rattle.tql_catalog.specs.declared.catalog.Table.{Table}
-use Rattle.tql_exec_join.specs.Bags.{IsBag}
+use Rattle.tql_exec_pairs.specs.Bags.{IsBag}
 use Rattle.tql_expr.specs.Evaluated.{Fails}
 use Rattle.tql_dml.specs.Alters.{Alters, Gives, added_rows}
 use Rattle.tql_spec.proofs.Bags.{same-sym, same-trans}

@@ -12,7 +12,7 @@ use Rattle.tql_spec.specs.Query.{keep}
 use Rattle.tql_spec.specs.Words.{kept_if}
 use Rattle.tql_expr.specs.Generated.{generated}
 use Rattle.tql_expr.specs.Meaning as terms
-use Rattle.tql_exec_join.proofs.Handed.{kept_parts, together}
+use Rattle.tql_exec_pairs.proofs.Handed.{kept_parts, together}
 use Rattle.tql_versions.specs.Readings.{open_ones, version_shown}
 use Rattle.tql_versions.specs.Views.{versions_of}
 use Rattle.tql_versions.specs.declared.kept.Kept.{Kept}

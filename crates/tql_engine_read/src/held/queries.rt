@@ -19,7 +19,7 @@ impl<I: IntervalIndex> Held<'_, I> {
     ghost use Rattle.tql_bound.specs.Queries.{bound_query_of};
     ghost use Rattle.tql_catalog.specs.Tables.{definitions_of};
     ghost use Rattle.tql_exec.specs.Steps.{ordered};
-    ghost use Rattle.tql_exec_join.specs.Bags.{GivesBag};
+    ghost use Rattle.tql_exec_pairs.specs.Bags.{GivesBag};
     ghost use Rattle.tql_expr.specs.Evaluated.{Evaluated};
     ghost use Rattle.tql_value.specs.Views.{rows_of};
     ghost use Rattle.tql_engine_state.specs.Allowed.{AsksWithin};

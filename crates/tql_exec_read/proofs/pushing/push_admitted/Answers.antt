@@ -1,7 +1,7 @@
 -- One version after another.
 use Rattle.std.proofs.Common.{map}
 use Rattle.tql_versions.specs.Readings.{version_shown as version_of}
-use Rattle.tql_exec_join.proofs.Handed.{part_more, part_fails}
+use Rattle.tql_exec_pairs.proofs.Handed.{part_more, part_fails}
 use Rattle.tql_exec_read.specs.Filters.{asked}
 use Rattle.tql_exec_read.proofs.Screened.{asked_parts}
 use Rattle.tql_exec_read.proofs.pushing.push_admitted.Goals as goal

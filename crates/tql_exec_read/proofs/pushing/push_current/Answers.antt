@@ -4,7 +4,7 @@ use Rattle.std.specs.Prelude.{Option}
 use Rattle.tql_spec.specs.Datum.{Row}
 use Rattle.tql_versions.specs.Readings.{open_ones}
 use Rattle.tql_versions.specs.Views.{versions_of}
-use Rattle.tql_exec_join.specs.Pushed.{Pushes}
+use Rattle.tql_exec_pairs.specs.Pushed.{Pushes}
 use Rattle.tql_exec_read.proofs.Screened.{unasked}
 use Rattle.tql_exec_read.proofs.pushing.push_current.Goals as goal
 

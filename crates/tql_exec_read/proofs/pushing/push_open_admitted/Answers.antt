@@ -2,7 +2,7 @@
 use Rattle.std.proofs.Common.{rules, ◌<◌, length}
 use Rattle.tql_versions.specs.Readings.{open_ones}
 use Rattle.tql_versions.specs.Views.{versions_of}
-use Rattle.tql_exec_join.proofs.Handed.{part_more, part_fails}
+use Rattle.tql_exec_pairs.proofs.Handed.{part_more, part_fails}
 use Rattle.tql_exec_read.specs.Filters.{asked}
 use Rattle.tql_exec_read.proofs.Screened.{open_asked_parts}
 use Rattle.tql_exec_read.proofs.pushing.push_open_admitted.Goals as goal

@@ -3,7 +3,7 @@ use Rattle.std.proofs.lemmas.List.Elements.{All-weaker}
 use Rattle.tql_bound.specs.Placed.{IsPlacedQuery}
 use Rattle.tql_bound.specs.Queries.{bound_query_of, references_of}
 use Rattle.tql_catalog.specs.Tables.{definitions_of}
-use Rattle.tql_exec_join.specs.Bags.{GivesBag}
+use Rattle.tql_exec_pairs.specs.Bags.{GivesBag}
 use Rattle.tql_store.specs.StoreModel.{StoreModel}
 use Rattle.tql_value.specs.Views.{rows_of}
 use Rattle.tql_engine_state.specs.Allowed.{AsksWithin}
