@@ -1,4 +1,3 @@
-pub mod FarRows
 pub mod Dropped
 pub mod OverBags
 pub mod Begun

@@ -2,4 +2,3 @@ pub mod Steps
 pub mod Keys
 pub mod Levels
 pub mod Counts
-pub mod Sides

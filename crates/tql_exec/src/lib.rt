@@ -7,6 +7,5 @@ mod levels;
 mod multiplying;
 mod pushing;
 pub mod running;
-mod sides;
 mod stepping;
 mod unlisted;

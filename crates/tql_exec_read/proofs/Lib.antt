@@ -3,5 +3,4 @@ pub mod Joinings
 pub mod Looked
 pub mod OneOf
 pub mod Open
-pub mod Regiven
 pub mod Screened

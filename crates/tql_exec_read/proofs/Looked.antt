@@ -14,6 +14,7 @@ use Rattle.tql_expr.specs.Generated.{generated}
 use Rattle.tql_expr.specs.Meaning as terms
 use Rattle.tql_plan_access.specs.Access.{IsRow, LookingIsEnough, Serves}
 use Rattle.tql_plan_screen.specs.Screens.{is_admitted}
+use Rattle.tql_exec_pairs.proofs.Regiven.{kept_same}
 use Rattle.tql_plan.specs.Nodes.{Scan}
 use Rattle.tql_plan.proofs.Sources.{values_all}
 use Rattle.tql_store.specs.StoreModel.{StoreModel}
@@ -22,7 +23,6 @@ use Rattle.tql_store_index.specs.Basis.{Sought, is_looked_at}
 use Rattle.tql_exec_read.specs.Filters.{asked, IsFilterFor}
 use Rattle.tql_exec_read.specs.Found.{AreRows, bags_in, completed}
 use Rattle.tql_exec_read.specs.declared.pushing.Filter.{Filter}
-use Rattle.tql_exec_read.proofs.Regiven.{kept_same}
 
 -- the versions of a scan in the reference model
 abbrev pub versions_for : StoreModel → Copies → Working → Scan → List Version

@@ -9,9 +9,9 @@ use Rattle.tql_expr.specs.Meaning.{cond}
 use Rattle.tql_store_index.specs.Basis.{is_looked_at}
 use Rattle.tql_versions.specs.Readings.{open_ones, version_shown as version_of}
 use Rattle.tql_versions.specs.Views.{versions_of}
+use Rattle.tql_exec_pairs.proofs.Regiven.{regiven, given, kept_same}
 use Rattle.tql_plan.specs.Nodes.{Scan, source_of}
 use Rattle.tql_exec_read.specs.Found.{bags_in, completed}
-use Rattle.tql_exec_read.proofs.Regiven.{regiven, given, kept_same}
 use Rattle.tql_exec_read.proofs.Looked.{looked_same, versions_for}
 use Rattle.tql_exec_read.proofs.reading.read_where.Goals as goal
 
