@@ -10,7 +10,7 @@ ghost use Rattle.tql_value.specs.Views.{datum_of_view, datum_of_value};
 ghost use Rattle.tql_row.specs.Cells.{IsRow, cells_part, row_of, width_of};
 
 use crate::cell::{eight, next, read};
-use crate::writing::packed;
+use crate::writing::{Bytes, packed};
 use smallvec::SmallVec;
 use std::alloc::AllocError;
 use std::marker::Model;
@@ -20,9 +20,7 @@ use tql_value::value::{Value, View};
 /// A row of a table. Its model is the list of its values.
 #[derive(Drop)]
 pub struct Row {
-    // 40 bytes hold three whole numbers and a text of 20 bytes, and make a `Row` of 64 bytes. A longer row has its
-    // bytes in an allocation of just their number.
-    bytes: SmallVec<u8, 40, Memory>,
+    bytes: Bytes,
 }
 
 impl Model for Row {
@@ -111,10 +109,8 @@ impl Row {
     pub fn of(memory: Memory, values: &[View<'_>]) -> Result<Row, AllocError>
         ensures { IfOk result (λ r. r ≡ map datum_of_view values.now) }
     {
-        // A row of up to 128 bytes is packed on the stack, so that the copy is its only allocation.
-        let packed = packed(memory, values)?;
         Ok(Row {
-            bytes: SmallVec::from_slice(memory, packed.as_slice())?,
+            bytes: packed(memory, values)?,
         })
     }
 

@@ -10,25 +10,31 @@ use std::alloc::AllocError;
 use tql_memory::Memory;
 use tql_value::value::View;
 
-/// The bytes of a row while it is packed. Up to 128 of them take no allocation.
-pub(crate) type Bytes = SmallVec<u8, 128, Memory>;
+/// The bytes of a row: 40 hold three whole numbers and a text of 20 bytes, and make a row of 64 bytes. More are in an
+/// allocation.
+pub(crate) type Bytes = SmallVec<u8, 40, Memory>;
 
 /// Appends the number of columns of a row.
 fn put_width(bytes: &mut Bytes, width: usize) -> Result<(), AllocError>
     ensures { OnOk result (bytes.new.items ≡ bytes.old.items ++ front_of_row width) }
 {
     if width < 255 {
-        return bytes.extend_from_slice(&[width as u8]);
+        return put(bytes, width as u8, &[]);
     }
     put(bytes, 255, &(width as u64).to_le_bytes())
 }
 
-/// Appends a tag and the bytes after it.
+/// Appends a tag and the bytes after it, one by one, which costs less than a copy of a few bytes.
+#[inline]
 fn put(bytes: &mut Bytes, tag: u8, rest: &[u8]) -> Result<(), AllocError>
     ensures { OnOk result (bytes.new.items ≡ bytes.old.items ++ tag ∷ rest.now) }
 {
-    bytes.extend_from_slice(&[tag])?;
-    bytes.extend_from_slice(rest)
+    bytes.reserve(rest.len() + 1)?;
+    bytes.push_reserved(tag);
+    for byte in rest {
+        bytes.push_reserved(*byte);
+    }
+    Ok(())
 }
 
 /// Appends the cell of a number of one byte.
@@ -134,11 +140,45 @@ fn put_each(bytes: &mut Bytes, values: &[View<'_>]) -> Result<(), AllocError>
     Ok(())
 }
 
+/// Returns the number of bytes of the cell of a number.
+fn number_size(number: i64) -> usize {
+    // The bits of the number without the copies of its sign, but one.
+    let bits = 65 - (number ^ (number >> 63)).leading_zeros();
+    match bits {
+        0..=8 => 2,
+        9..=16 => 3,
+        17..=32 => 5,
+        _ => 9,
+    }
+}
+
+/// Returns the number of bytes of the cell of a value.
+fn cell_size(value: View<'_>) -> usize {
+    match value {
+        View::Null => 1,
+        View::Int(number) => number_size(number),
+        View::Day(day) => number_size(day),
+        View::Moment(moment) => number_size(moment),
+        View::Text(text) => text
+            .len()
+            .saturating_add(if text.len() < 256 { 2 } else { 9 }),
+    }
+}
+
+/// Returns the number of bytes of a row of these values, so that a row is made in an allocation of just its size.
+fn row_size(values: &[View<'_>]) -> usize {
+    let mut size = if values.len() < 255 { 1usize } else { 9 };
+    for value in values {
+        size = size.saturating_add(cell_size(*value));
+    }
+    size
+}
+
 /// Returns the bytes of a row of these values. Fails only if out of memory.
 pub(crate) fn packed(memory: Memory, values: &[View<'_>]) -> Result<Bytes, AllocError>
     ensures { IfOk result (λ bytes. IsPacked (map datum_of_view values.now) bytes.items) }
 {
-    let mut bytes = SmallVec::new(memory);
+    let mut bytes = SmallVec::with_capacity(memory, row_size(values))?;
     put_width(&mut bytes, values.len())?;
     put_each(&mut bytes, values)?;
     Ok(bytes)

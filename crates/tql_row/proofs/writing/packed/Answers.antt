@@ -13,6 +13,6 @@ returns c =
     record {
       fits = rw wide (first_of (search rules, omega arith));
       written = written_at _ (front_of_row (length (map datum_of_view c.args.values.now))) _ _
-          (c.in_ok-put_width.ensures ∙ ap (λ (bs : List ℕ). bs ++ front) c.new-bytes.ensures.items
+          (c.in_ok-put_width.ensures ∙ ap (λ (bs : List ℕ). bs ++ front) c.in_ok-bytes.ensures.items
           ∙ ap front_of_row (sym wide)) c.in_ok-put_each.ensures;
     }
