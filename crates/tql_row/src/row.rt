@@ -18,7 +18,6 @@ use tql_memory::Memory;
 use tql_value::value::{Value, View};
 
 /// A row of a table. Its model is the list of its values.
-#[derive(Drop)]
 pub struct Row {
     bytes: Bytes,
 }
@@ -32,6 +31,13 @@ impl Model for Row {
     ghost view = { λ r. row_of r.bytes.items };
 
     ghost invariant = { λ r. IsRow r.bytes.items };
+}
+
+impl Drop for Row {
+    fn drop(self) {
+        let Row { bytes } = self;
+        drop(bytes);
+    }
 }
 
 /// Returns the number of columns of a row with these bytes.
