@@ -72,7 +72,6 @@ pub struct NewReference {
 
 /// The columns, periods, keys and references of a new table, in the order of the statement, and the names of the
 /// application periods.
-#[derive(Drop)]
 pub struct Draft<'a> {
     pub columns: Vec<NewColumn<'a>, Memory>,
     pub applications: Vec<NewApplication, Memory>,
@@ -80,6 +79,25 @@ pub struct Draft<'a> {
     pub systems: Vec<NewSystem, Memory>,
     pub keys: Vec<NewKey, Memory>,
     pub references: Vec<NewReference, Memory>,
+}
+
+impl Drop for Draft<'_> {
+    fn drop(self) {
+        let Draft {
+            columns,
+            applications,
+            names,
+            systems,
+            keys,
+            references,
+        } = self;
+        drop(columns);
+        drop(applications);
+        drop(names);
+        drop(systems);
+        drop(keys);
+        drop(references);
+    }
 }
 
 /// Decodes the name of a column.
@@ -292,31 +310,15 @@ impl<'a> Draft<'a> {
     }
 
     /// Replaces the names of the application periods.
-    fn with_names(self, names: PeriodNames) -> Draft<'a>
-        ensures columns { columns_in result ≡ columns_in self.entry }
-        ensures applications { applications_in result ≡ applications_in self.entry }
-        ensures systems { systems_in result ≡ systems_in self.entry }
-        ensures keys { keys_in result ≡ keys_in self.entry }
-        ensures references { references_in result ≡ references_in self.entry }
-        ensures names { result.names ≡ names }
+    fn set_names(&mut self, names: PeriodNames)
+        ensures columns { columns_in self.new ≡ columns_in self.old }
+        ensures applications { applications_in self.new ≡ applications_in self.old }
+        ensures systems { systems_in self.new ≡ systems_in self.old }
+        ensures keys { keys_in self.new ≡ keys_in self.old }
+        ensures references { references_in self.new ≡ references_in self.old }
+        ensures names { self.new.names ≡ names }
     {
-        let Draft {
-            columns,
-            applications,
-            names: former,
-            systems,
-            keys,
-            references,
-        } = self;
-        drop(former);
-        Draft {
-            columns,
-            applications,
-            names,
-            systems,
-            keys,
-            references,
-        }
+        self.names = names;
     }
 }
 
@@ -345,15 +347,11 @@ pub fn draft_of<'a>(memory: Memory, create: &CreateTree<'a>) -> Result<Draft<'a>
         draft.add(memory, &mut names, element)?;
     }
     let periods = period_names(memory, &draft.applications)?;
-    Ok(draft.with_names(periods))
+    draft.set_names(periods);
+    Ok(draft)
 }
 
 impl NewList {
-    /// Returns the byte offset of the list's first column.
-    pub fn start(&self) -> u32 {
-        self.column_start(0)
-    }
-
     /// Returns the byte offset of the column at this position of the list.
     pub fn column_start(&self, place: usize) -> u32 {
         match self.columns.get(place) {

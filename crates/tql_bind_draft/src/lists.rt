@@ -193,7 +193,7 @@ fn wrong_list(draft: &Draft<'_>, list: &NewList, numbers: &[usize]) -> About {
             return About::at(Cause::GeneratedInList, list.column_start(place));
         }
     }
-    About::at(Cause::PeriodColumnInList, list.start())
+    About::at(Cause::PeriodColumnInList, list.column_start(0))
 }
 
 /// Returns the numbers of the columns of a list. Adds a fault if a column is unknown or repeated, the list's period is

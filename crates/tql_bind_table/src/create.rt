@@ -163,7 +163,7 @@ fn second_primary(keys: &[NewKey]) -> About {
     let mut is_seen = false;
     for key in keys {
         if key.is_primary && is_seen {
-            return About::at(Cause::SecondPrimary, key.list.start());
+            return About::at(Cause::SecondPrimary, key.list.column_start(0));
         }
         is_seen = is_seen || key.is_primary;
     }

@@ -161,8 +161,8 @@ pub fn differing(
     let child = &reference.child;
     let named = &reference.named;
     if numbers.len() != others.len() {
-        return About::at(Cause::ListsDiffer, child.start())
-            .and(named.start())
+        return About::at(Cause::ListsDiffer, child.column_start(0))
+            .and(named.column_start(0))
             .counts(numbers.len(), others.len());
     }
     for (place, (number, other)) in numbers.iter().zip(others.iter()).enumerate() {
@@ -196,9 +196,9 @@ pub fn points_of(reference: &NewReference) -> About {
 /// with this number.
 pub fn wrong_reference(reference: &NewReference, table: usize) -> About {
     if is_half(reference) {
-        About::at(Cause::HalfPeriod, reference.child.start())
+        About::at(Cause::HalfPeriod, reference.child.column_start(0))
     } else {
-        About::at(Cause::NoKey, reference.named.start())
+        About::at(Cause::NoKey, reference.named.column_start(0))
             .and(reference.parent.start)
             .counts(table, 0)
     }
