@@ -1,8 +1,8 @@
 -- Cells removed from a row, as data; and values put into their columns one after another.
-use Rattle.std.specs.Prelude.{◌≡◌, refl, min, ℕ, suc, ◌+◌, ◌<◌, ◌≤◌, List, [], ◌∷◌, ◌++◌, map, take, drop, remove}
-use Rattle.std.specs.Prelude.{length, Option, Some, option_map, Vec, slice_set, slice_index_or}
-use Rattle.std.proofs.Common.{sym, ap, append_assoc, ◌∙◌, arith, lt-ltb}
-use Rattle.std.proofs.lemmas.List.{drop_more, drop-set-lt, map-append, take-map, drop-map}
+use Rattle.std.specs.Prelude.{◌≡◌, refl, min, ℕ, suc, ◌+◌, ◌<◌, ◌≤◌, List, [], ◌∷◌, ◌++◌, take, drop, remove}
+use Rattle.std.specs.Prelude.{length, Option, Some, option_map, slice_set, slice_index_or}
+use Rattle.std.proofs.Common.{sym, ap, ◌∙◌, arith, lt-ltb}
+use Rattle.std.proofs.lemmas.List.{drop_more, map-append, take-map, drop-map}
 use Rattle.std.proofs.lemmas.List.{length-drop}
 use borrow.Author.Tests.{le-ltb}
 use Rattle.tql_spec.specs.Datum.{Row, Null}
@@ -10,8 +10,7 @@ use Rattle.tql_spec.specs.Definition.{without_generated, cell}
 use Rattle.tql_spec.specs.Change.{filled}
 use Rattle.tql_catalog.specs.Definitions.{system_of}
 use Rattle.tql_catalog.specs.declared.definition.System.{System}
-use Rattle.tql_value.specs.Views.{datum_of_view, row_of, rows_of}
-use Rattle.tql_value.specs.declared.value.Value.{Value}
+use Rattle.tql_value.specs.Views.{datum_of_view}
 use Rattle.tql_value.specs.declared.value.View.{View}
 use Rattle.tql_dml.specs.Cells.{data_of}
 
@@ -52,22 +51,3 @@ pub all_filled : (row : Row) (js : List ℕ) (values : Row) (p : ℕ) (all : Row
     → filled row (drop p js) (drop p values) ≡ all → row ≡ all
 all_filled row js values p all past h =
     sym (none_filled row (drop p js) (drop p values) (omega (arith, length-drop p js, length-drop p values))) ∙ h
-
--- ---- tuples one after another
-
--- this tuple, and those after it
-this_tuple : {A : Type 0} (items : List (Vec Value A)) (i : ℕ) (x : Vec Value A) → i < length items
-    → x ≡ slice_index_or items i x → drop i items ≡ x ∷ drop (i + 1) items
-this_tuple {A} items i x l e = drop_more items i x l ∙ ap {B = List (Vec Value A)} (λ y. y ∷ drop (i + 1) items) (sym e)
-
--- one more row, from its tuple, which is taken
-pub one_more_row : {A : Type 0} (f : Row → Row) (rows made : List Row) (items : List (Vec Value A)) (i : ℕ)
-    (x y : Vec Value A) (row : Row) (all : List Row) → i < length items → x ≡ slice_index_or items i x
-    → row ≡ f (row_of x.items) → made ≡ rows ++ row ∷ [] → rows ++ map f (rows_of (drop i items)) ≡ all
-    → made ++ map f (rows_of (drop (i + 1) (slice_set items i y))) ≡ all
-one_more_row f rows made items i x y row all l e m n h =
-    let rest : List Row = map f (rows_of (drop (i + 1) items)) in
-    (λ j. n j ++ map f (rows_of (drop-set-lt (i + 1) items i y (omega arith) j)))
-    ∙ append_assoc rows (row ∷ []) rest
-    ∙ (λ j. rows ++ m j ∷ rest)
-    ∙ sym (λ j. rows ++ map f (rows_of (this_tuple items i x l e j))) ∙ h

@@ -1,11 +1,11 @@
-//! A row while it is made: a view of each cell, which borrows its text from a literal, a query's value or the old row.
+//! A row while it is made: a view of each cell, which borrows its text from a literal, a row of a query or the old row.
 //! The cells are packed at the end.
 ghost use Rattle.std.specs.Prelude.{◌≡◌, map, option_map, remove, replicate, slice_set, IfOk, IfErr};
 ghost use Rattle.tql_spec.specs.Change.{filled};
 ghost use Rattle.tql_spec.specs.Datum.{Null};
 ghost use Rattle.tql_spec.specs.Definition.{without_generated};
 ghost use Rattle.tql_catalog.specs.Definitions.{system_of};
-ghost use Rattle.tql_value.specs.Views.{datum_of_view, row_of};
+ghost use Rattle.tql_value.specs.Views.{datum_of_view};
 ghost use Rattle.tql_value.specs.declared.refusal.Refusal.TheVariants.{OutOfMemory};
 ghost use Rattle.tql_dml.specs.Cells.{data_of};
 
@@ -14,7 +14,7 @@ use tql_catalog::definition::System;
 use tql_expr::row::Row;
 use tql_memory::Memory;
 use tql_value::refusal::Refusal;
-use tql_value::value::{Value, View};
+use tql_value::value::View;
 
 /// The cells of a row that is made. Up to eight make no allocation.
 pub(crate) type Draft<'a> = SmallVec<View<'a>, 8, Memory>;
@@ -31,14 +31,15 @@ pub(crate) fn nulls<'a>(memory: Memory, width: usize) -> Result<Draft<'a>, Refus
     Ok(row)
 }
 
-/// Returns values for reading. The only error is a refused allocation.
-pub(crate) fn views_of<'a>(memory: Memory, values: &'a [Value]) -> Result<Draft<'a>, Refusal>
-    ensures row { IfOk result (λ views. data_of views.items ≡ row_of values.now) }
+/// Returns the values of a row, for reading. The only error is a refused allocation.
+pub(crate) fn views_of<'a>(memory: Memory, row: &'a Row) -> Result<Draft<'a>, Refusal>
+    ensures row { IfOk result (λ views. data_of views.items ≡ row.now) }
     ensures memory { IfErr result (λ e. e ≡ OutOfMemory) }
 {
-    let mut views = SmallVec::with_capacity(memory, values.len())?;
-    for value in values {
-        views.push(value.view())?;
+    let width = row.width();
+    let mut views = SmallVec::with_capacity(memory, width)?;
+    for place in 0..width {
+        views.push(row.column(place))?;
     }
     Ok(views)
 }

@@ -6,7 +6,6 @@ ghost use Rattle.tql_catalog.specs.Definitions.{checks_of};
 ghost use Rattle.tql_expr.specs.Evaluated.{Evaluated};
 ghost use Rattle.tql_expr.specs.Meaning.{HasExpr};
 ghost use Rattle.tql_expr.specs.Shown.{shown_by};
-ghost use Rattle.tql_value.specs.Views.{rows_of};
 ghost use Rattle.tql_dml.specs.Alters.{conds_in, portion_in, tuples_in, work_in};
 ghost use Rattle.tql_dml.specs.Cells.{falls_by, stored_cells, unstamped};
 ghost use Rattle.tql_dml.specs.Failing as spec;
@@ -27,7 +26,6 @@ use tql_expr::terms::{ExprId, Terms};
 use tql_memory::Memory;
 use tql_value::refusal::Refusal;
 use tql_value::truth::Truth;
-use tql_value::value::Value;
 use tql_versions::version::{HIGH, Version};
 
 /// The reason why a row fails. Columns are numbered among the stored columns, and CHECKs among those of the table, both
@@ -261,16 +259,16 @@ pub fn first_failed_value(insertion: &Insertion) -> Option<ValueFailure>
     None
 }
 
-/// Returns the rows that an INSERT of these values would add, even if they have faults. The only error is a refused
-/// allocation.
+/// Returns the rows that an INSERT of these rows of values would add, even if they have faults. The only error is a
+/// refused allocation.
 pub fn inserted_rows(
     memory: Memory,
     table: &Table,
     columns: &[usize],
-    values: Vec<Vec<Value, Memory>, Memory>,
+    values: Vec<Row, Memory>,
 ) -> Result<Vec<Row, Memory>, Refusal>
     ensures { IfOk result (λ rows. rows.items
-        ≡ map (stored_cells table.now.definition columns.now) (rows_of values.entry.items)) }
+        ≡ map (stored_cells table.now.definition columns.now) values.entry.items) }
 {
     new_rows(memory, &table.definition, columns, values)
 }

@@ -7,7 +7,6 @@ ghost use Rattle.tql_dml.specs.Cells.{stored_cells};
 ghost use Rattle.tql_dml.specs.PointChanges.{InsertsAtPoints};
 ghost use Rattle.tql_dml.specs.PointRefusals.{RefusesInsertionAsPoints};
 ghost use Rattle.tql_value.specs.Points.{ArePrintable};
-ghost use Rattle.tql_value.specs.Views.{rows_of};
 
 use crate::faults::first_fault;
 use crate::spread::new_rows;
@@ -18,7 +17,6 @@ use tql_expr::row::Row;
 use tql_memory::Memory;
 use tql_store::store::Delta;
 use tql_value::refusal::Refusal;
-use tql_value::value::Value;
 
 /// Returns the change that adds these rows, given their stored cells, if they have no fault.
 fn adding(memory: Memory, table: &Table, added: Vec<Row, Memory>) -> Result<Delta, Refusal>
@@ -41,8 +39,8 @@ fn adding(memory: Memory, table: &Table, added: Vec<Row, Memory>) -> Result<Delt
     }
 }
 
-/// Returns the change that adds a row for each list of values. Columns without a value are NULL. The new rows fit the
-/// table.
+/// Returns the change that adds a row for each of these rows of values. Columns without a value are NULL. The new rows
+/// fit the table.
 ///
 /// # Errors
 ///
@@ -53,12 +51,12 @@ pub fn insert_rows(
     memory: Memory,
     table: &Table,
     columns: &[usize],
-    rows: Vec<Vec<Value, Memory>, Memory>,
+    rows: Vec<Row, Memory>,
 ) -> Result<Delta, Refusal>
-    requires { ArePrintable (rows_of rows.items) }
+    requires { ArePrintable rows.items }
     ensures alters { Alters table.now.id []
-        (λ m. (added_rows table.now.definition columns.now (Some (rows_of rows.entry.items)) m).rows)
-        (added_rows table.now.definition columns.now (Some (rows_of rows.entry.items))) result }
+        (λ m. (added_rows table.now.definition columns.now (Some rows.entry.items) m).rows)
+        (added_rows table.now.definition columns.now (Some rows.entry.items)) result }
     ensures fits { IfOk result (λ delta. All (IsRowOf table.now.definition) delta.added.items) }
 {
     let added = new_rows(memory, &table.definition, columns, rows)?;

@@ -6,6 +6,7 @@ pub mod ScanRows
 pub mod ByKey
 pub mod ByPeriod
 pub mod OverSinks
+pub mod Lone
 pub mod LeftScans
 pub mod Crossed
 pub mod Counted

@@ -7,3 +7,4 @@ pub mod Collected
 pub mod Turns
 pub mod Indexes
 pub mod Taking
+pub mod Packed

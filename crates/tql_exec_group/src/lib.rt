@@ -5,5 +5,6 @@ pub mod distinct;
 pub mod grouping;
 pub mod listing;
 mod on_group;
+pub mod packing;
 mod places;
 pub mod steps;

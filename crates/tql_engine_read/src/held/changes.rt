@@ -41,7 +41,7 @@ impl<I: IntervalIndex> Held<'_, I> {
         ensures { (s : State) (p : Table) → StandsFor self.now s
             → slice_get self.now.tables insertion.now.table ≡ Some p → Adds s p insertion.now result }
     {
-        let rows = match self.unordered_rows(&insertion.query) {
+        let rows = match self.packed_rows(&insertion.query) {
             Ok(rows) => rows,
             Err(refusal) => return Err(refusal),
         };

@@ -16,7 +16,6 @@ use tql_detail::detail::Detail;
 use tql_dml::failures::{
     first_failed_value, first_failure, inserted_rows, modified_rows, tuple_rows,
 };
-use tql_exec_sort::sorting::arrange;
 use tql_expr::row::Row;
 use tql_index::index::IntervalIndex;
 use tql_key_failures::failures::{RowRef, failed_key, failed_reference};
@@ -31,11 +30,25 @@ use tql_row_message::references::{missing_detail, referenced_detail};
 use tql_row_message::state::{
     clock_detail, horizon_detail, reader_detail, readers_detail, transaction_detail,
 };
+use tql_store::snapshot::Snapshot;
 use tql_store::store::Delta;
 use tql_syntax_tree::statement::Statement;
 use tql_value::calendar::FIRST_MOMENT;
 use tql_value::refusal::Refusal;
+use tql_value::value::Value;
 use tql_value::when::When;
+
+/// Packs the rows of an answer. The only error is a refused allocation.
+fn packed_rows(
+    memory: Memory,
+    rows: &[Vec<Value, Memory>],
+) -> Result<Vec<Row, Memory>, AllocError> {
+    let mut packed = Vec::with_capacity(memory, rows.len())?;
+    for row in rows {
+        packed.push(Row::of_values(memory, row)?)?;
+    }
+    Ok(packed)
+}
 
 /// Returns how a detail names a new row: by its number in an INSERT.
 fn subject(is_insert: bool, row: usize) -> Subject {
@@ -217,9 +230,10 @@ impl<I: IntervalIndex> Held<'_, I> {
         requires asked { AsksWithin self.now (bound_query_of insertion.now.query) }
     {
         let table = self.table_at(insertion.table);
-        match self.unordered_rows(&insertion.query) {
-            Ok(mut values) => {
-                arrange(self.memory, &mut values, false, &insertion.query.ordering).ok()?;
+        let shown = Snapshot::now(self.store);
+        match self.answered(&shown, &insertion.query) {
+            Ok(answer) => {
+                let values = packed_rows(self.memory, &answer.rows).ok()?;
                 let rows = inserted_rows(self.memory, table, &insertion.columns, values).ok()?;
                 self.added_fault(insertion.table, rows, refusal)
             }

@@ -1,14 +1,15 @@
 //! SELECT, and the rows that a query answers.
 use crate::held::Held;
 use tql_bound::query::BoundQuery;
-use tql_exec::running::{run, unordered_rows};
+use tql_exec::running::{packed_rows, run};
+use tql_expr::row::Row;
 use tql_index::index::IntervalIndex;
 use tql_memory::Memory;
 use tql_plan::planner::plan;
 use tql_result::reply::Reply;
 use tql_store::snapshot::Snapshot;
 use tql_value::refusal::Refusal;
-use tql_value::value::{ResultTable, Value};
+use tql_value::value::ResultTable;
 
 impl<I: IntervalIndex> Held<'_, I> {
     ghost use Rattle.std.specs.Prelude.{◌≡◌, map, string_bytes, IfOk};
@@ -27,20 +28,17 @@ impl<I: IntervalIndex> Held<'_, I> {
     ghost use Rattle.tql_engine_state.specs.Stands.{StandsFor};
     ghost use Rattle.tql_engine_state.specs.Effects.{DoesStep};
 
-    /// Returns the rows that a query answers, in any order. Refused if an evaluation that is reached overflows 64 bits,
-    /// or if an allocation is refused.
-    pub(super) fn unordered_rows(
-        &self,
-        query: &BoundQuery,
-    ) -> Result<Vec<Vec<Value, Memory>, Memory>, Refusal>
+    /// Returns the rows that a query answers, packed and in any order. Refused if an evaluation that is reached
+    /// overflows 64 bits, or if an allocation is refused.
+    pub(super) fn packed_rows(&self, query: &BoundQuery) -> Result<Vec<Row, Memory>, Refusal>
         requires placed { IsPlacedQuery (definitions_of self.now.tables) (bound_query_of query.now) }
         requires within { AsksWithin self.now (bound_query_of query.now) }
         ensures { (s : State) → StandsFor self.now s
-            → GivesBag (λ rows. rows_of rows.items) (answer (bag_of s) (bound_query_of query.now)) result }
+            → GivesBag (λ rows. rows.items) (answer (bag_of s) (bound_query_of query.now)) result }
     {
         let plan = plan(self.memory, self.tables, query)?;
         let shown = Snapshot::now(self.store);
-        unordered_rows(self.memory, &shown, &plan)
+        packed_rows(self.memory, &shown, &plan)
     }
 
     /// Returns the rows that a query answers from a snapshot of the store, in the order in which they are printed, with

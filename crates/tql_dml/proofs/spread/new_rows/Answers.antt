@@ -1,16 +1,18 @@
-use Rattle.std.proofs.Common.{◌∙◌, ap, sym, arith, Vec}
-use Rattle.tql_value.specs.Views.{row_of}
-use Rattle.tql_value.specs.declared.value.Value.{Value}
+use Rattle.std.proofs.Common.{◌≡◌, ◌∙◌, ap, length, map, sym, arith}
+use Rattle.std.proofs.lemmas.List.{length-map, with_items_is}
+use Rattle.tql_catalog.proofs.Rests.{rest_step, rest_end}
 use Rattle.tql_dml.specs.Cells.{stored_cells}
-use Rattle.tql_dml.proofs.Removals.{one_more_row}
 use Rattle.tql_dml.proofs.spread.new_rows.Goals as goal
 
-pub loop-tuple-preserved : goal.loop-tuple-preserved
-loop-tuple-preserved c =
+pub loop-row-preserved : goal.loop-row-preserved
+loop-row-preserved c =
+    rest_step (stored_cells c.args.definition.now c.args.columns.now) c.loop-row.row-index c.loop-row.row-items
+    c.store.new.row c.row-item.result (omega arith) c.in_ok-store.ensures.row ∙ c.loop-row.invariant
+
+pub returns-clause-rows : goal.returns-clause-rows
+returns-clause-rows c =
     let f = stored_cells c.args.definition.now c.args.columns.now in
-    let values = c.deref.ensures.value ∙ ap (λ (x : Vec Value _). x.items)
-    (c.replace-values.ensures.value ∙ sym c.tuple-item.is) in
-    one_more_row f c.loop-tuple.rows.items c.push.new.self.items c.loop-tuple.tuple-items c.loop-tuple.tuple-index
-    c.tuple-item.result _ c.in_ok-row_of_values.field-0 _ (omega arith) c.tuple-item.is
-    (c.in_ok-row_of_values.ensures.row ∙ ap (λ vs. f (row_of vs)) values) c.in_ok-push.ensures.items
-    c.loop-tuple.invariant
+    let is : c.loop-row.row-items ≡ map f c.args.rows.items =
+    sym (rest_end f c.loop-row.row-index c.loop-row.row-items (omega arith)) ∙ c.loop-row.invariant in
+    with_items_is c.args.rows c.loop-row.row-items
+    (omega (arith, ap length is, length-map c.args.rows.items f, c.deref_mut-row-items.ensures.len)) ∙ is

@@ -4,7 +4,6 @@ use Rattle.tql_spec.specs.Machine.{State}
 use Rattle.tql_bound.specs.declared.change.QueryInsertion.{QueryInsertion}
 use Rattle.tql_catalog.specs.declared.catalog.Table.{Table}
 use Rattle.tql_dml.specs.Alters.{Alters, added_rows}
-use Rattle.tql_value.specs.Views.{rows_of}
 use Rattle.tql_engine_state.specs.Adding.{Adds}
 use Rattle.tql_engine_state.specs.Stands.{StandsFor}
 use Rattle.tql_engine_state.proofs.Asked.{fits_now}
@@ -21,7 +20,7 @@ insert_rows-requires g c =
     let s : State = c.self.invariant.state in
     let x = c.args.insertion.now.query in
     let stands = subst (λ h. StandsFor h s) c.self.view_is c.self.invariant.stands in
-    rows_print _ (rows_of c.in-Ok.rows.items)
+    rows_print _ c.in-Ok.rows.items
     (answer_prints c.args.self.now.tables s x (fits_now c.args.self.now s stands) c.requires.placed)
     (c.in-Ok.ensures s stands)
 
@@ -29,7 +28,7 @@ pub returns : goal.returns
 returns g c s q st there =
     let x : QueryInsertion = c.args.insertion.now in
     let p : Table = c.table_at-table.result.now in
-    let rows : List Row = rows_of c.in-Ok.rows.items in
+    let rows : List Row = c.in-Ok.rows.items in
     let alters = subst (λ js. Alters p.id [] (λ m. (added_rows p.definition js (Some rows) m).rows)
     (added_rows p.definition js (Some rows)) c.insert_rows.result) c.deref.ensures.value
     c.insert_rows.ensures.alters in

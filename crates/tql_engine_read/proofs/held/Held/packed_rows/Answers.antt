@@ -5,7 +5,6 @@ use Rattle.tql_bound.specs.Queries.{bound_query_of, references_of}
 use Rattle.tql_catalog.specs.Tables.{definitions_of}
 use Rattle.tql_exec_pairs.specs.Bags.{GivesBag}
 use Rattle.tql_store.specs.StoreModel.{StoreModel}
-use Rattle.tql_value.specs.Views.{rows_of}
 use Rattle.tql_engine_state.specs.Allowed.{AsksWithin}
 use Rattle.tql_engine_state.specs.Showing.{CanAnswer, Shows}
 use Rattle.tql_engine_state.specs.Stands.{EngineModel, StandsFor}
@@ -13,7 +12,7 @@ use Rattle.tql_engine_state.proofs.Asked.{shows_now}
 use Rattle.tql_engine_state.proofs.Finding.{IsThere, meaning_is, references_there, sources_readable, sources_rows}
 use Rattle.tql_engine_state.proofs.ReadersShow.{can_now}
 use Rattle.tql_engine_state.proofs.Standing.{place_law}
-use Rattle.tql_engine_read.proofs.held.Held.unordered_rows.Goals as goal
+use Rattle.tql_engine_read.proofs.held.Held.packed_rows.Goals as goal
 
 pub plan-requires : goal.plan-requires
 plan-requires g c =
@@ -28,8 +27,8 @@ plan-requires g c =
           (references_there (definitions_of tables) x placed);
     }
 
-pub unordered_rows-requires-clause-readable : goal.unordered_rows-requires-clause-readable
-unordered_rows-requires-clause-readable g c =
+pub packed_rows-requires-clause-readable : goal.packed_rows-requires-clause-readable
+packed_rows-requires-clause-readable g c =
     let x = c.args.query.now in
     let q = bound_query_of x in
     let placed = subst (λ (h : EngineModel). IsPlacedQuery (definitions_of h.tables) q) (sym c.self.view_is)
@@ -53,6 +52,6 @@ returns g c s st =
     let shows = subst (λ (r : StoreModel). Shows tables r s) (sym c.now-shown.ensures)
     (shows_now _ s (subst (λ h. StandsFor h s) (sym c.self.view_is) st)) in
     let means = meaning_is tables _ s shows x c.in_ok-plan.plan placed can.there c.in_ok-plan.ensures.means in
-    let given = c.unordered_rows.ensures shows.copies shows.working shows.stands
+    let given = c.packed_rows.ensures shows.copies shows.working shows.stands
     (sources_rows tables _ x c.in_ok-plan.plan placed can c.in_ok-plan.ensures.sources s shows) in
-    subst (λ o. GivesBag (λ rows. rows_of rows.items) o c.unordered_rows.result) means given
+    subst (λ o. GivesBag (λ rows. rows.items) o c.packed_rows.result) means given
