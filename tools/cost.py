@@ -61,8 +61,8 @@ class Crate:
             found.append(("functions", f"{self.functions} functions, at most {FUNCTIONS}"))
         if self.weight >= WEIGHT:
             found.append(("weight", f"1,000 + code + .antt / 5 is {self.weight:.0f}, to be below {WEIGHT}"))
-        if self.edits == 1 or self.edits > EDITS:
-            found.append(("edits", f"{self.edits} in must-fail/: none, or 2 to {EDITS}"))
+        if self.edits > EDITS:
+            found.append(("edits", f"{self.edits} in must-fail/, at most {EDITS}"))
         if not self.is_tests and any(UNDER_TEST.search(it) for it in self.code.values()):
             found.append(("tests", "cfg(test) in a crate that is not one of tests, so the gate proves it twice"))
         for file, text in {**self.code, **self.pure}.items():

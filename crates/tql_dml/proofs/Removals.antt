@@ -1,15 +1,12 @@
 -- Cells removed from a row, as data; and values put into their columns one after another.
 use Rattle.std.specs.Prelude.{◌≡◌, refl, min, ℕ, suc, ◌+◌, ◌<◌, ◌≤◌, List, [], ◌∷◌, ◌++◌, take, drop, remove}
-use Rattle.std.specs.Prelude.{length, Option, Some, option_map, slice_set, slice_index_or}
-use Rattle.std.proofs.Common.{sym, ap, ◌∙◌, arith, lt-ltb}
+use Rattle.std.specs.Prelude.{length, slice_set, slice_index_or}
+use Rattle.std.proofs.Common.{sym, ◌∙◌, arith}
 use Rattle.std.proofs.lemmas.List.{drop_more, map-append, take-map, drop-map}
 use Rattle.std.proofs.lemmas.List.{length-drop}
-use borrow.Author.Tests.{le-ltb}
 use Rattle.tql_spec.specs.Datum.{Row, Null}
-use Rattle.tql_spec.specs.Definition.{without_generated, cell}
+use Rattle.tql_spec.specs.Definition.{cell}
 use Rattle.tql_spec.specs.Change.{filled}
-use Rattle.tql_catalog.specs.Definitions.{system_of}
-use Rattle.tql_catalog.specs.declared.definition.System.{System}
 use Rattle.tql_value.specs.Views.{datum_of_view}
 use Rattle.tql_value.specs.declared.value.View.{View}
 use Rattle.tql_dml.specs.Cells.{data_of}
@@ -18,16 +15,6 @@ use Rattle.tql_dml.specs.Cells.{data_of}
 pub data_remove : (views : List View) (i : ℕ) → data_of (remove views i) ≡ remove (data_of views) i
 data_remove views i = map-append datum_of_view (take i views) (drop (suc i) views)
     ∙ (λ j. sym (take-map datum_of_view i views) j ++ sym (drop-map datum_of_view (suc i) views) j)
-
--- ROW END is further right
-pub end_removed_first : (o : Option System) (s : System) (old mid new : Row) → o ≡ Some s → s.start < s.end
-    → mid ≡ remove old s.end → new ≡ remove mid s.start → new ≡ without_generated (option_map system_of o) old
-end_removed_first o s old mid new e l f g = rw (e, lt-ltb s.start s.end l) (g ∙ ap (λ r. remove r s.start) f)
-
--- ROW START is further right
-pub start_removed_first : (o : Option System) (s : System) (old mid new : Row) → o ≡ Some s → s.end ≤ s.start
-    → mid ≡ remove old s.start → new ≡ remove mid s.end → new ≡ without_generated (option_map system_of o) old
-start_removed_first o s old mid new e l f g = rw (e, le-ltb s.start s.end l) (g ∙ ap (λ r. remove r s.end) f)
 
 -- one more value in its column
 pub one_more_filled : (row new : Row) (js : List ℕ) (values : Row) (p : ℕ) (all : Row)

@@ -18,7 +18,7 @@ use Rattle.tql_versions.specs.Views.{versions_of}
 use Rattle.tql_versions.specs.declared.kept.Kept.{Kept}
 use Rattle.tql_versions.specs.declared.version.Version.{Version as Reading}
 use Rattle.tql_plan_access.specs.Access.{IsRow}
-use Rattle.tql_plan_screen.specs.Screens.{IsScreen, ScreenIsEnough, Screening, Test, WholeScreenDecides}
+use Rattle.tql_plan_screen.specs.Screens.{IsScreen, Screening, Test, WholeScreenDecides}
 use Rattle.tql_plan_screen.specs.Screens.{admitted, is_admitted}
 use Rattle.tql_exec_read.specs.Filters.{asked, passed}
 use Rattle.tql_exec_read.specs.Found.{completed}
@@ -58,11 +58,6 @@ kept_all (x ∷ rows) = ap (kept_if x (Some true)) (kept_all rows)
 module _ (system : Option System) (period : Option (ℕ × ℕ)) (width : ℕ) (conds : List Cond) (s : Screening)
     (is : IsScreen system period width conds s) (vs : List Version)
     (rows : All (λ v. IsRow period width (completed system v)) vs) where
-  -- the admitted versions, and then the conjuncts
-  pub asked_then : ScreenIsEnough
-      → keep conds (map (completed system) (admitted s.tests vs)) ≡ keep conds (map (completed system) vs)
-  asked_then law = law system period width conds s.tests is.serves vs rows
-
   -- the admitted versions of a whole screen, and no conjuncts
   pub asked_alone : WholeScreenDecides → s.whole ≡ true
       → keep [] (map (completed system) (admitted s.tests vs)) ≡ keep conds (map (completed system) vs)

@@ -39,7 +39,7 @@ use tql_value::value::Value;
 use tql_value::when::When;
 
 /// Packs the rows of an answer. The only error is a refused allocation.
-fn packed_rows(
+fn packed_answer(
     memory: Memory,
     rows: &[Vec<Value, Memory>],
 ) -> Result<Vec<Row, Memory>, AllocError> {
@@ -233,7 +233,7 @@ impl<I: IntervalIndex> Held<'_, I> {
         let shown = Snapshot::now(self.store);
         match self.answered(&shown, &insertion.query) {
             Ok(answer) => {
-                let values = packed_rows(self.memory, &answer.rows).ok()?;
+                let values = packed_answer(self.memory, &answer.rows).ok()?;
                 let rows = inserted_rows(self.memory, table, &insertion.columns, values).ok()?;
                 self.added_fault(insertion.table, rows, refusal)
             }

@@ -1,4 +1,4 @@
-use Rattle.std.proofs.Common.{◌∙◌, sym, ap, subst, rules, w64, List}
+use Rattle.std.proofs.Common.{◌∙◌, sym, subst, rules, w64, List}
 use Rattle.std.proofs.Math.Facts.{to_z-of_z}
 use Rattle.std.proofs.lemmas.List.Elements.{All-from_recursion}
 use mir.Val.{SFits, of_z, to_z}
