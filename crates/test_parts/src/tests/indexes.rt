@@ -1,7 +1,6 @@
 //! tql_index: entries that were added before memory ran out are there, and refused ones are not; and the depth of the
 //! tree.
 use std::alloc::AllocError;
-use std::process::Abort;
 use std::test::Fail;
 use tql_index::index::IntervalIndex;
 use tql_index::tree_index::TreeIndex;
@@ -81,23 +80,26 @@ fn each_growth_is_refused_in_turn(rt: HostRuntime) -> Result<(), Fail> {
     Ok(())
 }
 
-/// Returns the period of one point.
-fn unit(rt: &impl Abort, start: i64) -> Period {
-    Period::new(start, start.saturating_add(1)).expect(rt, "it rises")
+/// Adds this number of periods of one point, whose starts rise.
+fn fill<I: IntervalIndex>(index: &mut I, count: i64) -> Option<()> {
+    for start in 0..count {
+        index.add(Period::new(start, start + 1)?, 0).ok()?;
+    }
+    Some(())
 }
 
 /// With rising starts each branch is filled with 31 entries, and 2^5 - 1 branches make a full tree of five levels.
 #[test]
 fn the_tree_stays_shallow(rt: HostRuntime) -> Result<(), Fail> {
-    let mut tree = TreeIndex::new(memory(rt.alloc(), u64::MAX)?);
-    let empty = (tree.is_empty(), tree.depth());
-    for start in 0i64..961 {
-        tree.add(unit(&rt, start), 0)?;
-    }
-    let mut list = ListIndex::new(memory(rt.alloc(), u64::MAX)?);
-    let none = list.is_empty();
-    list.add(unit(&rt, 0), 0)?;
-    let found = (empty, tree.len(), tree.depth(), none, list.len());
-    assert_eq!(rt; found, ((true, 0), 961, 5, true, 1));
+    let memory = memory(rt.alloc(), u64::MAX)?;
+    let mut tree = TreeIndex::new(memory);
+    let mut list = ListIndex::new(memory);
+    let empty = (tree.is_empty(), tree.depth(), list.is_empty());
+    let filled = (fill(&mut tree, 961), fill(&mut list, 1));
+    let found = (tree.len(), tree.depth(), list.len());
+    let is_right = empty == (true, 0, true)
+        && filled == (Some(()), Some(()))
+        && found == (961, 5, 1);
+    assert!(rt; is_right);
     Ok(())
 }

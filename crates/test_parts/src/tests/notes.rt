@@ -4,7 +4,7 @@ use std::test::Fail;
 use tql_detail::place::Place;
 use tql_memory::memory;
 use tql_result::vec_sink::VecSink;
-use tql_run::note::Note;
+use tql_run::note::{Note, Told};
 use tql_run::notes::Notes;
 use tql_run::runner::run;
 use tql_run::slice_source::SliceSource;
@@ -32,6 +32,13 @@ const NOTES: [Note; 3] = [
     },
 ];
 
+/// The refusal of a statement that begins a script.
+const FIRST: Note = Note {
+    statement: 1,
+    line: 1,
+    refusal: Refusal::NotAStatement,
+};
+
 /// The number of allocations for the notes and for the replies, and the number of bytes that are read at once.
 #[derive(Clone, Copy)]
 struct Setting {
@@ -49,30 +56,50 @@ const SOUND: Setting = Setting {
 
 /// Returns the notes of a run.
 fn notes_of(rt: &impl AllocGlobal, script: &[u8], setting: Setting) -> Result<Notes, Fail> {
-    let mut lengths = Lengths {
-        memory: memory(rt.alloc(), u64::MAX)?,
-    };
-    let mut source = SliceSource::in_pieces(script, setting.size);
-    let mut sink = VecSink::new(Vec::new(memory(rt.alloc(), setting.replies)?));
+    let all = memory(rt.alloc(), u64::MAX)?;
+    let replies = memory(rt.alloc(), setting.replies)?;
     let mut notes = Notes::new(memory(rt.alloc(), setting.notes)?);
-    let _ = run(&mut lengths, &mut source, &mut sink, &mut notes);
+    let mut source = SliceSource::in_pieces(script, setting.size);
+    let mut sink = VecSink::new(Vec::new(replies));
+    let _ = run(
+        &mut Lengths { memory: all },
+        &mut source,
+        &mut sink,
+        &mut notes,
+    );
     Ok(notes)
 }
 
+/// Scripts, whether all their notes are kept, and the kept ones: in reads of each size; where no note can be kept; and
+/// where the reply to a refused statement cannot be written.
+static CASES: [(&[u8], Setting, bool, &[Note]); 5] = [
+    (SCRIPT, Setting { size: 1, ..SOUND }, true, &NOTES),
+    (SCRIPT, Setting { size: 3, ..SOUND }, true, &NOTES),
+    (SCRIPT, SOUND, true, &NOTES),
+    (SCRIPT, Setting { notes: 0, ..SOUND }, false, &[]),
+    (
+        b"no;no",
+        Setting {
+            replies: 0,
+            ..SOUND
+        },
+        true,
+        &[FIRST],
+    ),
+];
+
 #[test]
 fn tells_where_refused_statements_stand(rt: HostRuntime) -> Result<(), Fail> {
-    for size in [1, 3, usize::MAX] {
-        let notes = notes_of(&rt, SCRIPT, Setting { size, ..SOUND })?;
-        assert!(rt;
-            notes.is_whole() && notes.kept.as_slice() == NOTES.as_slice(),
-            "reads of {size}"
-        );
+    for (number, &(script, setting, is_whole, kept)) in CASES.iter().enumerate() {
+        let notes = notes_of(&rt, script, setting)?;
+        let is_right = notes.is_whole() == is_whole && notes.kept.as_slice() == kept;
+        assert!(rt; is_right, "case {number}");
     }
     Ok(())
 }
 
 /// The places that are reported with the refusals of the script, including that of its unfinished statement.
-const PLACES: [Place; 3] = [
+static PLACES: [Place; 3] = [
     Place { line: 3, column: 4 },
     Place { line: 8, column: 2 },
     Place {
@@ -81,37 +108,18 @@ const PLACES: [Place; 3] = [
     },
 ];
 
+/// Whether these places are reported, and no others.
+fn are_placed(told: &[Told], places: &[Place]) -> bool {
+    let mut are_right = told.len() == places.len();
+    for (told, place) in told.iter().zip(places) {
+        are_right = are_right && told.detail.place == Some(*place);
+    }
+    are_right
+}
+
 #[test]
 fn tells_where_what_is_told_beside_stands(rt: HostRuntime) -> Result<(), Fail> {
     let notes = notes_of(&rt, SCRIPT, SOUND)?;
-    let mut places = Vec::new(rt.alloc());
-    for told in &notes.told {
-        places.push(told.detail.place)?;
-    }
-    let wanted = [Some(PLACES[0]), Some(PLACES[1]), Some(PLACES[2])];
-    assert!(rt; places.as_slice() == wanted.as_slice());
-    Ok(())
-}
-
-#[test]
-fn tells_where_a_note_is_lost(rt: HostRuntime) -> Result<(), Fail> {
-    let notes = notes_of(&rt, SCRIPT, Setting { notes: 0, ..SOUND })?;
-    assert!(rt; !notes.is_whole() && notes.kept.is_empty());
-    Ok(())
-}
-
-#[test]
-fn tells_of_a_refusal_that_was_not_written(rt: HostRuntime) -> Result<(), Fail> {
-    let unwritten = Setting {
-        replies: 0,
-        ..SOUND
-    };
-    let notes = notes_of(&rt, b"no;no", unwritten)?;
-    let first = Note {
-        statement: 1,
-        line: 1,
-        refusal: Refusal::NotAStatement,
-    };
-    assert!(rt; notes.is_whole() && notes.kept.as_slice() == [first].as_slice());
+    assert!(rt; are_placed(&notes.told, &PLACES));
     Ok(())
 }

@@ -23,35 +23,31 @@ fn counts(summary: Summary) -> (u64, u64) {
     (summary.statements, summary.refused)
 }
 
-/// Runs a script.
-fn run_script(rt: &impl AllocGlobal, script: &[u8], setting: Setting) -> Result<Outcome, Fail> {
+/// Runs a script, or only up to its first refusal.
+fn run_script(
+    rt: &impl AllocGlobal,
+    script: &[u8],
+    setting: Setting,
+    stops: bool,
+) -> Result<Outcome, Fail> {
     let mut lengths = Lengths {
         memory: memory(rt.alloc(), setting.granted)?,
     };
     let mut source = StdSource::new(setting.reader(script));
     let mut sink = StdSink::new(setting.writer(rt.alloc()));
-    let end = run(&mut lengths, &mut source, &mut sink, &mut Silence).map(counts);
-    Ok(Outcome {
-        end,
-        text: sink.into_writer().bytes,
-    })
-}
-
-/// Runs a script up to its first refusal.
-fn bail_script(rt: &impl AllocGlobal, script: &[u8], setting: Setting) -> Result<Outcome, Fail> {
-    let mut lengths = Lengths {
-        memory: memory(rt.alloc(), setting.granted)?,
+    let end = if stops {
+        let form = &mut PlainForm;
+        run_in(
+            &mut lengths,
+            &mut source,
+            &mut sink,
+            &mut Silence,
+            form,
+            true,
+        )
+    } else {
+        run(&mut lengths, &mut source, &mut sink, &mut Silence)
     };
-    let mut source = StdSource::new(setting.reader(script));
-    let mut sink = StdSink::new(setting.writer(rt.alloc()));
-    let end = run_in(
-        &mut lengths,
-        &mut source,
-        &mut sink,
-        &mut Silence,
-        &mut PlainForm,
-        true,
-    );
     Ok(Outcome {
         end: end.map(counts),
         text: sink.into_writer().bytes,
@@ -93,7 +89,10 @@ const CUT: &str = "INSERT 1\nREFUSED E12 unfinished statement\n";
 
 const NOT_UTF8: &str = "INSERT 1\nREFUSED E11 not UTF-8\n";
 
-const CASES: [(&[u8], Setting, End, &str); 33] = [
+/// A script, its devices, the end of its run, and its output.
+type Case<'a> = (&'a [u8], Setting, End, &'a str);
+
+static CASES: [Case<'static>; 33] = [
     // a read fails: the statements that were complete before it are answered
     (
         SCRIPT,
@@ -245,17 +244,26 @@ const CASES: [(&[u8], Setting, End, &str); 33] = [
     (b"", SOUND, Ok((0, 0)), ""),
 ];
 
+/// Returns the number of cases before the first that ends or writes otherwise.
+fn right_cases(rt: &impl AllocGlobal, cases: &[Case<'_>], stops: bool) -> Result<usize, Fail> {
+    for (number, (script, setting, end, text)) in cases.iter().enumerate() {
+        let outcome = run_script(rt, script, *setting, stops)?;
+        if outcome.end != *end || outcome.text.as_slice() != text.as_bytes() {
+            return Ok(number);
+        }
+    }
+    Ok(cases.len())
+}
+
 #[test]
 fn runs_end_and_write(rt: HostRuntime) -> Result<(), Fail> {
-    for (case, (script, setting, end, text)) in CASES.into_iter().enumerate() {
-        let outcome = run_script(&rt, script, setting)?;
-        let is_right = outcome.end == end && outcome.text.as_slice() == text.as_bytes();
-        assert!(rt; is_right, "case {case}");
-    }
+    let right = right_cases(&rt, &CASES, false)?;
+    assert!(rt; right == CASES.len(), "case {right}");
     Ok(())
 }
 
-const BAILS: [(&[u8], Setting, End, &str); 8] = [
+/// Runs that end at the first refusal.
+static BAILS: [Case<'static>; 8] = [
     (SCRIPT, SOUND, Ok((2, 1)), TWO),
     (SCRIPT, BY_ONE, Ok((2, 1)), TWO),
     // nothing is read after the refusal: the next read would fail
@@ -295,11 +303,8 @@ const BAILS: [(&[u8], Setting, End, &str); 8] = [
 
 #[test]
 fn a_refusal_stops_a_run(rt: HostRuntime) -> Result<(), Fail> {
-    for (case, (script, setting, end, text)) in BAILS.into_iter().enumerate() {
-        let outcome = bail_script(&rt, script, setting)?;
-        let is_right = outcome.end == end && outcome.text.as_slice() == text.as_bytes();
-        assert!(rt; is_right, "case {case}");
-    }
+    let right = right_cases(&rt, &BAILS, true)?;
+    assert!(rt; right == BAILS.len(), "case {right}");
     Ok(())
 }
 
@@ -307,18 +312,27 @@ fn a_refusal_stops_a_run(rt: HostRuntime) -> Result<(), Fail> {
 #[test]
 fn long_texts_grow(rt: HostRuntime) -> Result<(), Fail> {
     let script = vec![in rt.alloc(); b'a'; 70_000]?;
-    for (granted, text) in [(3, LOST), (4, UNFINISHED)] {
-        let outcome = run_script(&rt, &script, Setting { granted, ..SOUND })?;
-        let is_right = outcome.end == Ok((1, 1)) && outcome.text.as_slice() == text.as_bytes();
-        assert!(rt; is_right, "with {granted} growths");
-    }
+    let small = Setting {
+        granted: 3,
+        ..SOUND
+    };
+    let ample = Setting {
+        granted: 4,
+        ..SOUND
+    };
+    let cases = [
+        (script.as_slice(), small, Ok((1, 1)), LOST),
+        (script.as_slice(), ample, Ok((1, 1)), UNFINISHED),
+    ];
+    let right = right_cases(&rt, &cases, false)?;
+    assert!(rt; right == 2);
     Ok(())
 }
 
 /// Runs a script whose writes fail after the first `writes`. Returns whether the run ends with that fault and has
 /// written a prefix of the replies of at least `shortest` bytes; and the length of that prefix.
 fn cut(rt: &impl AllocGlobal, writes: u64, shortest: usize) -> Result<(bool, usize), Fail> {
-    let Outcome { end, text } = run_script(rt, SCRIPT, Setting { writes, ..SOUND })?;
+    let Outcome { end, text } = run_script(rt, SCRIPT, Setting { writes, ..SOUND }, false)?;
     let is_whole = text.len() == WHOLE.len();
     let is_right = end.is_ok() == is_whole && (is_whole || end == Err(Fault::Write));
     let is_beginning = WHOLE.as_bytes().starts_with(&text) && shortest <= text.len();

@@ -13,7 +13,7 @@ type Said = Result<u64, Refusal>;
 
 const SCRIPT: &[u8] = b"abc;no;'a;b'; -- ;\nde";
 
-const SAID: [Said; 4] = [
+static SAID: [Said; 4] = [
     Ok(3),
     Err(Refusal::NotAStatement),
     Ok(5),
@@ -21,7 +21,7 @@ const SAID: [Said; 4] = [
 ];
 
 /// Parts of a script, and the answer after each.
-const PARTS: [(&[u8], Option<Said>); 5] = [
+static PARTS: [(&[u8], Option<Said>); 5] = [
     (b"ab", None),
     (b"c", None),
     (b";n", Some(Ok(3))),
@@ -42,32 +42,31 @@ fn next(session: &mut Session, responder: &mut Lengths) -> Option<Said> {
     answer.as_ref().map(said)
 }
 
-/// Appends the next answers to the others.
-fn take_answers(
-    session: &mut Session,
-    responder: &mut Lengths,
-    all: &mut Vec<Said, Memory>,
-) -> Result<(), AllocError> {
+/// Whether the next answers are the expected ones after the first `taken`, which counts them.
+fn are_next(session: &mut Session, responder: &mut Lengths, taken: &mut usize) -> bool {
+    let mut are_right = true;
     for _ in 0..5 {
         if let Some(said) = next(session, responder) {
-            all.push(said)?;
+            are_right = are_right && SAID.get(*taken) == Some(&said);
+            *taken = taken.saturating_add(1);
         }
     }
-    Ok(())
+    are_right
 }
 
-/// Returns the answers to a script that comes in these parts.
-fn answered(memory: Memory, parts: [&[u8]; 3]) -> Result<Vec<Said, Memory>, AllocError> {
+/// Whether a script that comes in these parts has the expected answers.
+fn are_answered(memory: Memory, parts: [&[u8]; 3]) -> Result<bool, AllocError> {
     let mut responder = Lengths { memory };
     let mut session = Session::new(memory)?;
-    let mut all = Vec::new(memory);
+    let mut taken = 0;
+    let mut are_right = true;
     for part in parts {
         session.feed(part);
-        take_answers(&mut session, &mut responder, &mut all)?;
+        are_right = are_next(&mut session, &mut responder, &mut taken) && are_right;
     }
     session.finish();
-    take_answers(&mut session, &mut responder, &mut all)?;
-    Ok(all)
+    are_right = are_next(&mut session, &mut responder, &mut taken) && are_right;
+    Ok(are_right && taken == SAID.len())
 }
 
 #[test]
@@ -77,8 +76,7 @@ fn parts_are_answered_as_the_whole(rt: HostRuntime) -> Result<(), Fail> {
     for cut in 0..SCRIPT.len() {
         let (first, rest) = SCRIPT.split_at(cut);
         let (second, third) = rest.split_at(rest.len() / 2);
-        let found = answered(all, [first, second, third])?;
-        are_right = are_right && found.as_slice() == SAID.as_slice();
+        are_right = are_answered(all, [first, second, third])? && are_right;
     }
     assert!(rt; are_right);
     Ok(())
@@ -89,10 +87,12 @@ fn no_statement_is_answered_before_its_end(rt: HostRuntime) -> Result<(), Fail> 
     let all = memory(rt.alloc(), u64::MAX)?;
     let mut responder = Lengths { memory: all };
     let mut session = Session::new(all)?;
-    for (part, want) in PARTS {
+    let mut are_right = true;
+    for &(part, want) in &PARTS {
         session.feed(part);
         let found = next(&mut session, &mut responder);
-        assert!(rt; found == want && next(&mut session, &mut responder).is_none());
+        are_right = are_right && found == want && next(&mut session, &mut responder).is_none();
     }
+    assert!(rt; are_right);
     Ok(())
 }

@@ -1,5 +1,5 @@
 //! tql_result: the part of a reply that a failing sink has written, and the failures that it counts.
-use std::alloc::{AllocError, Global};
+use std::alloc::Global;
 use std::test::Fail;
 use test_devices::Kept;
 use tql_memory::{Memory, memory};
@@ -9,8 +9,7 @@ use tql_result::reply::{Reply, Verb};
 use tql_result::sink::Sink;
 use tql_result::std_sink::StdSink;
 use tql_value::refusal::Refusal;
-use tql_value::text::Text;
-use tql_value::value::{ResultTable, Value};
+use tql_value::value::{ResultTable, Value, View};
 
 /// Whether a reply is cut correctly by a writer that accepts one byte at a time and fails after `taken` bytes: the
 /// prefix of its text is written, and there is one failure unless the text has no more bytes.
@@ -38,18 +37,33 @@ fn is_cut_anywhere(alloc: Global, reply: &Reply, text: &str) -> bool {
     (0..=text.len()).all(|taken| is_cut(alloc, reply, text.as_bytes(), taken))
 }
 
+/// Returns a row of a value of each kind but one.
+fn row(memory: Memory) -> Result<Vec<Value, Memory>, Fail> {
+    let mut row = Vec::new(memory);
+    for view in [
+        View::Null,
+        View::Text("it's"),
+        View::Day(-719_162),
+        View::Moment(1),
+    ] {
+        row.push(view.to_value(memory)?)?;
+    }
+    Ok(row)
+}
+
+fn headings(memory: Memory) -> Result<Vec<String<Memory>, Memory>, Fail> {
+    let mut headings = Vec::new(memory);
+    for name in ["A", "b"] {
+        headings.push(String::from_str(memory, name)?)?;
+    }
+    Ok(headings)
+}
+
 /// Returns a table of one row.
-fn sample(memory: Memory) -> Result<Reply, AllocError> {
-    let quotes = Value::Text(Text::copy_of(memory, "it's")?);
-    let row = vec![in memory; Value::Null, quotes, Value::Day(-719_162), Value::Moment(1)]?;
-    let names = vec![in memory;
-        String::from_str(memory, "A")?,
-        String::from_str(memory, "b")?,
-    ]?;
-    Ok(Reply::Table(ResultTable {
-        headings: names,
-        rows: vec![in memory; row]?,
-    }))
+fn sample(memory: Memory) -> Result<Reply, Fail> {
+    let headings = headings(memory)?;
+    let rows = vec![in memory; row(memory)?]?;
+    Ok(Reply::Table(ResultTable { headings, rows }))
 }
 
 const SAMPLE: &str = "A|\"b\"\nNULL|'it''s'|0001-01-01|1970-01-01 00:00:00.000001\n(1 rows)\n";
@@ -76,7 +90,7 @@ fn pushes_that_take_nothing_are_counted(rt: HostRuntime) {
     let pushed = write_reply(&mut sink, &Reply::Done(Verb::Committed, None));
     let found = (pushed, sink.faults(), sink.flush());
     let _ = sink;
-    assert_eq!(rt; (found, room), ((Err(DeviceFault), 1, Ok(())), *b"COM"));
+    assert!(rt; found == (Err(DeviceFault), 1, Ok(())) && room == *b"COM");
 }
 
 #[test]
@@ -90,5 +104,5 @@ fn flushes_that_fail_are_counted(rt: HostRuntime) {
         failed_flushes: 0,
     });
     let found = (sink.flush(), sink.faults());
-    assert_eq!(rt; found, (Err(DeviceFault), 1));
+    assert!(rt; found == (Err(DeviceFault), 1));
 }
