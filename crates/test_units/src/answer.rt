@@ -1,7 +1,7 @@
 //! The answer to a line, with each allocation made to fail, in order.
 use crate::line::Line;
 use crate::stop::Stop;
-use crate::{calendar, indexes, lexer, periods, replies, values};
+use crate::{calendar, indexes, lexer, periods, replies, rows, values};
 use std::alloc::AllocError;
 use tql_memory::{Memory, memory};
 use tql_value::refusal::Refusal;
@@ -14,6 +14,7 @@ pub enum Subject {
     Lexer,
     Periods,
     Replies,
+    Rows,
     Values,
 }
 
@@ -28,24 +29,8 @@ fn answer(memory: Memory, subject: Subject, line: &Line<'_>, out: &mut String) -
         Subject::Lexer => lexer::answer(memory, line, out),
         Subject::Periods => periods::answer(memory, line, out),
         Subject::Replies => replies::answer(memory, line, out),
+        Subject::Rows => rows::answer(memory, line, out),
         Subject::Values => values::answer(memory, line, out),
-    }
-}
-
-/// Appends the answer to a line, and returns whether the memory was enough.
-fn is_answered(
-    memory: Memory,
-    subject: Subject,
-    line: &Line<'_>,
-    out: &mut String,
-) -> Result<bool, AllocError> {
-    match answer(memory, subject, line, out) {
-        Ok(()) => Ok(true),
-        Err(Stop::Refused(Refusal::OutOfMemory)) => Ok(false),
-        Err(stop) => {
-            out.push_str(stop.text())?;
-            Ok(true)
-        }
     }
 }
 
@@ -59,8 +44,13 @@ pub fn answer_in_turn(
     let mut out = String::new(rt.alloc());
     for granted in 0..MOST_BLOCKS {
         out.clear();
-        if is_answered(memory(rt.alloc(), granted)?, subject, line, &mut out)? {
-            return Ok(out);
+        match answer(memory(rt.alloc(), granted)?, subject, line, &mut out) {
+            Ok(()) => return Ok(out),
+            Err(Stop::Refused(Refusal::OutOfMemory)) => {}
+            Err(stop) => {
+                out.push_str(stop.text())?;
+                return Ok(out);
+            }
         }
     }
     out.push_str("no memory is enough")?;

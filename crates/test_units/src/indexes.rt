@@ -1,6 +1,6 @@
 //! Lines about the indexes of periods, each a list of steps.
 use crate::line::Line;
-use crate::parts::{count, int, period, write_yes};
+use crate::parts::{count, int, period, two};
 use crate::stop::Stop;
 use std::alloc::AllocError;
 use tql_index::index::{Id, IntervalIndex};
@@ -16,30 +16,18 @@ fn entry(text: &str) -> Result<(Period, Id), Stop> {
     Ok((period(ends)?, count(id)?))
 }
 
-/// Writes numbers in ascending order.
+/// Writes numbers in ascending order, and the end of a step's result.
 fn write_ids(out: &mut String, mut ids: Vec<Id, Memory>) -> Result<(), AllocError> {
     ids.sort()?;
     for id in &ids {
         write!(out, "{id} ")?;
     }
-    Ok(())
-}
-
-fn remove<I: IntervalIndex>(index: &mut I, out: &mut String, rest: &str) -> Result<(), Stop> {
-    let (period, id) = entry(rest)?;
-    write_yes(out, index.remove(period, id))?;
-    Ok(())
-}
-
-fn add<I: IntervalIndex>(index: &mut I, rest: &str) -> Result<(), Stop> {
-    let (period, id) = entry(rest)?;
-    index.add(period, id)?;
-    Ok(())
+    out.push(';')
 }
 
 /// Parses a group, and returns it with the text after it.
 fn grouped(text: &str) -> Result<(i64, &str), Stop> {
-    let (group, rest) = text.split_once(' ').ok_or(Stop::Form)?;
+    let (group, rest) = two(text)?;
     Ok((int(group)?, rest))
 }
 
@@ -49,40 +37,47 @@ fn span(text: &str) -> Result<Span, Stop> {
     Ok(Span::within(group, period(ends)?))
 }
 
-fn put<I: IntervalIndex>(index: &mut I, rest: &str) -> Result<(), Stop> {
-    let (group, rest) = grouped(rest)?;
+/// Adds an entry in a group, or removes one and writes whether it was there.
+fn change<I: IntervalIndex>(
+    index: &mut I,
+    out: &mut String,
+    word: &str,
+    (group, rest): (i64, &str),
+) -> Result<(), Stop> {
     let (period, id) = entry(rest)?;
-    index.add_span(Span::within(group, period), id)?;
+    let is_removed = match word {
+        "add" => return Ok(index.add(period, id)?),
+        "put" => return Ok(index.add_span(Span::within(group, period), id)?),
+        "remove" => index.remove(period, id),
+        _ => index.remove_span(Span::within(group, period), id),
+    };
+    out.push_str(if is_removed { "yes;" } else { "no;" })?;
     Ok(())
 }
 
-fn take<I: IntervalIndex>(index: &mut I, out: &mut String, rest: &str) -> Result<(), Stop> {
-    let (group, rest) = grouped(rest)?;
-    let (period, id) = entry(rest)?;
-    write_yes(out, index.remove_span(Span::within(group, period), id))?;
-    Ok(())
+/// Returns the numbers of the entries that a step looks up.
+fn found<I: IntervalIndex>(index: &I, word: &str, rest: &str) -> Result<Vec<Id, Memory>, Stop> {
+    Ok(match word {
+        "at" => index.stab(int(rest)?)?,
+        "over" => index.overlapping(period(rest)?)?,
+        "in" => index.sharing(span(rest)?)?,
+        "all" => index.sharing(Span::all(int(rest)?))?,
+        "groups" => {
+            let (low, high) = grouped(rest)?;
+            index.in_groups(low, int(high)?)?
+        }
+        _ => return Err(Stop::Form),
+    })
 }
 
 /// Executes a step, and writes its result.
 fn make<I: IntervalIndex>(index: &mut I, out: &mut String, step: &str) -> Result<(), Stop> {
-    let (word, rest) = step.split_once(' ').ok_or(Stop::Form)?;
+    let (word, rest) = two(step)?;
     match word {
-        "add" => return add(index, rest),
-        "put" => return put(index, rest),
-        "remove" => remove(index, out, rest)?,
-        "take" => take(index, out, rest)?,
-        "at" => write_ids(out, index.stab(int(rest)?)?)?,
-        "over" => write_ids(out, index.overlapping(period(rest)?)?)?,
-        "in" => write_ids(out, index.sharing(span(rest)?)?)?,
-        "all" => write_ids(out, index.sharing(Span::all(int(rest)?))?)?,
-        "groups" => {
-            let (low, high) = grouped(rest)?;
-            write_ids(out, index.in_groups(low, int(high)?)?)?;
-        }
-        _ => return Err(Stop::Form),
+        "add" | "remove" => change(index, out, word, (0, rest)),
+        "put" | "take" => change(index, out, word, grouped(rest)?),
+        _ => Ok(write_ids(out, found(index, word, rest)?)?),
     }
-    out.push(';')?;
-    Ok(())
 }
 
 /// Executes steps on a new index.

@@ -2,7 +2,7 @@
 ghost use Rattle.std.specs.Prelude.{◌≡◌, ◌<◌, ◌≤◌, [], OnOk};
 
 use crate::line::Line;
-use crate::parts::{count, sides, two, write_yes};
+use crate::parts::{count, mark, sides, two};
 use crate::stop::Stop;
 use std::alloc::AllocError;
 use tql_lex::piece::Piece;
@@ -11,7 +11,7 @@ use tql_lex::token::{Symbol, Token, TokenKind};
 use tql_lex::tokenizer::tokens;
 use tql_memory::Memory;
 
-const SYMBOLS: [Symbol; 13] = [
+static SYMBOLS: [Symbol; 13] = [
     Symbol::Open,
     Symbol::Close,
     Symbol::Comma,
@@ -38,43 +38,8 @@ fn letter(kind: TokenKind) -> char {
     }
 }
 
-/// Writes the letter of a token's kind, and the token's content.
-fn write_token(out: &mut String, memory: Memory, token: &Token<'_>) -> Result<(), Stop> {
-    let content = token.content(memory)?;
-    write!(out, "{}{content} ", letter(token.kind))?;
-    Ok(())
-}
-
-fn write_tokens(out: &mut String, memory: Memory, text: &str) -> Result<(), Stop> {
-    let found = tokens(memory, text)?;
-    for token in &found {
-        write_token(out, memory, token)?;
-    }
-    Ok(())
-}
-
-/// Writes the start of each token, and its text as it is written.
-fn write_places(out: &mut String, memory: Memory, text: &str) -> Result<(), Stop> {
-    let found = tokens(memory, text)?;
-    for token in &found {
-        write!(out, "{}:{} ", token.start, token.text)?;
-    }
-    Ok(())
-}
-
-/// Writes whether each token is reserved.
-fn write_reserved(out: &mut String, memory: Memory, text: &str) -> Result<(), Stop> {
-    let found = tokens(memory, text)?;
-    for token in &found {
-        out.push(if token.is_reserved() { 'Y' } else { 'N' })?;
-    }
-    Ok(())
-}
-
-/// Writes which of the symbols the first token is.
-fn write_symbols(out: &mut String, memory: Memory, text: &str) -> Result<(), Stop> {
-    let found = tokens(memory, text)?;
-    let token = found.first().ok_or(Stop::Form)?;
+/// Writes which of the symbols a token is.
+fn write_symbols(out: &mut String, token: &Token<'_>) -> Result<(), AllocError> {
     for (place, symbol) in SYMBOLS.iter().enumerate() {
         if token.is_sign(*symbol) {
             write!(out, "{place} ")?;
@@ -83,12 +48,43 @@ fn write_symbols(out: &mut String, memory: Memory, text: &str) -> Result<(), Sto
     Ok(())
 }
 
-/// Writes whether the first token is the word.
-fn write_is_word(out: &mut String, memory: Memory, input: &str) -> Result<(), Stop> {
-    let (text, word) = sides(input)?;
+/// Writes the letter of a token's kind, and the token's content.
+fn write_content(out: &mut String, memory: Memory, token: &Token<'_>) -> Result<(), Stop> {
+    let content = token.content(memory)?;
+    write!(out, "{}{content} ", letter(token.kind))?;
+    Ok(())
+}
+
+/// Writes what a command asks of a token: its content, its start and its text as it is written, whether it is reserved,
+/// which of the symbols it is, or whether it is a word.
+fn write_token(
+    out: &mut String,
+    memory: Memory,
+    command: &str,
+    word: &str,
+    token: &Token<'_>,
+) -> Result<(), Stop> {
+    Ok(match command {
+        "tokens" => return write_content(out, memory, token),
+        "places" => write!(out, "{}:{} ", token.start, token.text)?,
+        "reserved" => out.push(mark(token.is_reserved()))?,
+        "symbols" => write_symbols(out, token)?,
+        "word" => out.push(mark(token.is_word(word)))?,
+        _ => return Err(Stop::Form),
+    })
+}
+
+/// Writes what a command asks of each token of a text. With `word` the word is behind the text.
+fn write_tokens(out: &mut String, memory: Memory, command: &str, input: &str) -> Result<(), Stop> {
+    let (text, word) = if command == "word" {
+        sides(input)?
+    } else {
+        (input, "")
+    };
     let found = tokens(memory, text)?;
-    let token = found.first().ok_or(Stop::Form)?;
-    write_yes(out, token.is_word(word))?;
+    for token in &found {
+        write_token(out, memory, command, word, token)?;
+    }
     Ok(())
 }
 
@@ -162,12 +158,7 @@ fn cut(out: &mut String, memory: Memory, input: &str) -> Result<(), Stop> {
 /// Answers a line about tokens or pieces.
 pub fn answer(memory: Memory, line: &Line<'_>, out: &mut String) -> Result<(), Stop> {
     match line.command {
-        "tokens" => write_tokens(out, memory, line.input),
-        "places" => write_places(out, memory, line.input),
-        "reserved" => write_reserved(out, memory, line.input),
-        "symbols" => write_symbols(out, memory, line.input),
-        "word" => write_is_word(out, memory, line.input),
         "cut" => cut(out, memory, line.input),
-        _ => Err(Stop::Form),
+        command => write_tokens(out, memory, command, line.input),
     }
 }

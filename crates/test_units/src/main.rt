@@ -12,44 +12,39 @@ mod line;
 mod parts;
 mod periods;
 mod replies;
+mod rows;
 mod stop;
 mod values;
 
 use crate::answer::{Subject, answer_in_turn};
-use crate::line::{Line, is_case, line_of, unmarked};
+use crate::line::{is_case, line_of, unmarked};
 use std::fs::Files;
 use std::{fs, io};
 
 /// The files and their subjects.
-const FILES: [(&str, Subject); 6] = [
+static FILES: [(&str, Subject); 7] = [
     ("calendar", Subject::Calendar),
     ("indexes", Subject::Indexes),
     ("lexer", Subject::Lexer),
     ("periods", Subject::Periods),
     ("replies", Subject::Replies),
+    ("rows", Subject::Rows),
     ("values", Subject::Values),
 ];
 
-/// Whether a line has the expected answer. If not, it is printed with its answer.
-fn is_met(rt: &(impl Print + AllocGlobal), subject: Subject, line: &Line<'_>) -> io::Result<bool> {
-    let answer = answer_in_turn(rt, subject, line)?;
+/// Whether a line, as it is written in a file, has the expected answer. If not, it is printed with its answer.
+fn is_right(rt: &(impl Print + AllocGlobal), subject: Subject, written: &str) -> io::Result<bool> {
+    let text = unmarked(rt.alloc(), written)?;
+    let Some(line) = line_of(text.as_str()) else {
+        println!(rt; "no line: {text}")?;
+        return Ok(false);
+    };
+    let answer = answer_in_turn(rt, subject, &line)?;
     if answer.as_str() == line.wanted {
         return Ok(true);
     }
     println!(rt; "{} {} -> {}", line.command, line.input, answer)?;
     Ok(false)
-}
-
-/// Whether a line, as it is written in a file, has the expected answer.
-fn is_right(rt: &(impl Print + AllocGlobal), subject: Subject, written: &str) -> io::Result<bool> {
-    let text = unmarked(rt.alloc(), written)?;
-    match line_of(text.as_str()) {
-        Some(line) => is_met(rt, subject, &line),
-        None => {
-            println!(rt; "no line: {text}")?;
-            Ok(false)
-        }
-    }
 }
 
 /// Answers the lines of a file, and prints their number.
@@ -75,7 +70,7 @@ fn check_file(
 }
 
 fn main(rt: HostRuntime) -> io::Result<()> {
-    for (name, subject) in FILES {
+    for &(name, subject) in &FILES {
         check_file(&rt, name, subject)?;
     }
     Ok(())

@@ -66,16 +66,18 @@ pub fn write_view(out: &mut String, view: View<'_>) -> Result<(), AllocError> {
     }
 }
 
-/// Writes `yes` or `no`.
-pub fn write_yes(out: &mut String, holds: bool) -> Result<(), AllocError> {
-    out.push_str(if holds { "yes" } else { "no" })
+/// Returns the letter of an answer: `Y` or `N`.
+pub fn mark(holds: bool) -> char {
+    if holds { 'Y' } else { 'N' }
 }
 
-/// Parses values with `, ` between them, and copies them.
-fn row(memory: Memory, text: &str) -> Result<Vec<Value, Memory>, Stop> {
+/// Parses values with `, ` between them, or none, and copies them.
+pub fn row(memory: Memory, text: &str) -> Result<Vec<Value, Memory>, Stop> {
     let mut row = Vec::new(memory);
     for part in text.split(", ") {
-        row.push(view(part)?.to_value(memory)?)?;
+        if !part.is_empty() {
+            row.push(view(part)?.to_value(memory)?)?;
+        }
     }
     Ok(row)
 }

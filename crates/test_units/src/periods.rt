@@ -1,6 +1,6 @@
 //! Lines about the parts of periods, their points, and coverage.
 use crate::line::Line;
-use crate::parts::{int, period, sides, two};
+use crate::parts::{int, mark, period, sides, two};
 use crate::stop::Stop;
 use std::alloc::AllocError;
 use tql_memory::Memory;
@@ -26,10 +26,6 @@ fn cut(out: &mut String, input: &str) -> Result<(), Stop> {
     out.push_str(", ")?;
     write_period(out, pieces.after)?;
     Ok(())
-}
-
-fn mark(holds: bool) -> char {
-    if holds { 'Y' } else { 'N' }
 }
 
 /// Writes with which of some periods a period shares a point.

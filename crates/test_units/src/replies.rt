@@ -3,7 +3,7 @@ ghost use Rattle.std.specs.Prelude.{IsTrue};
 ghost use Rattle.tql_result.specs.Replies.{answer_of, IsPrintableAnswer};
 
 use crate::line::Line;
-use crate::parts::{count, rows, sides, two};
+use crate::parts::{rows, sides, two};
 use crate::stop::Stop;
 use crate::values::refusal;
 use tql_memory::Memory;
@@ -16,35 +16,37 @@ use tql_result_box::box_table::write_box_table;
 use tql_result_forms::csv::write_csv_table;
 use tql_result_forms::json::{Diagnostic, write_json_answer};
 use tql_result_forms::jsonl::write_json_rows;
-use tql_value::refusal::Refusal;
 use tql_value::value::ResultTable;
 
+/// The names of the verbs.
+static VERBS: [(&str, Verb); 12] = [
+    ("CreatedTable", Verb::CreatedTable),
+    ("DroppedTable", Verb::DroppedTable),
+    ("Inserted", Verb::Inserted),
+    ("Updated", Verb::Updated),
+    ("Deleted", Verb::Deleted),
+    ("Started", Verb::Started),
+    ("Committed", Verb::Committed),
+    ("RolledBack", Verb::RolledBack),
+    ("ClockSet", Verb::ClockSet),
+    ("Pruned", Verb::Pruned),
+    ("OpenedReader", Verb::OpenedReader),
+    ("ClosedReader", Verb::ClosedReader),
+];
+
 fn verb(word: &str) -> Result<Verb, Stop> {
-    match word {
-        "CreatedTable" => Ok(Verb::CreatedTable),
-        "DroppedTable" => Ok(Verb::DroppedTable),
-        "Inserted" => Ok(Verb::Inserted),
-        "Updated" => Ok(Verb::Updated),
-        "Deleted" => Ok(Verb::Deleted),
-        "Started" => Ok(Verb::Started),
-        "Committed" => Ok(Verb::Committed),
-        "RolledBack" => Ok(Verb::RolledBack),
-        "ClockSet" => Ok(Verb::ClockSet),
-        "Pruned" => Ok(Verb::Pruned),
-        "OpenedReader" => Ok(Verb::OpenedReader),
-        "ClosedReader" => Ok(Verb::ClosedReader),
-        _ => Err(Stop::Form),
+    for &(name, verb) in &VERBS {
+        if name == word {
+            return Ok(verb);
+        }
     }
+    Err(Stop::Form)
 }
 
 /// Parses the reply of a statement that is done, with a number of rows or without.
 fn done(input: &str) -> Result<Reply, Stop> {
     let (word, number) = two(input)?;
-    let verb = verb(word)?;
-    if number == "-" {
-        return Ok(Reply::Done(verb, None));
-    }
-    Ok(Reply::Done(verb, Some(count(number)? as u64)))
+    Ok(Reply::Done(verb(word)?, number.parse().ok()))
 }
 
 /// Parses headings with `, ` between them.
@@ -64,34 +66,49 @@ fn table(memory: Memory, input: &str) -> Result<Reply, Stop> {
     Ok(Reply::Table(ResultTable { headings, rows }))
 }
 
-/// The only reason why a sink into a vector fails.
-const NO_MEMORY: Stop = Stop::Refused(Refusal::OutOfMemory);
-
-/// Writes the content of a sink.
-fn write_held(out: &mut String, sink: VecSink) -> Result<(), Stop> {
-    let bytes = sink.into_bytes();
-    out.push_str(str::from_utf8(&bytes).ok().ok_or(Stop::Form)?)?;
-    Ok(())
+/// Parses the answer that a line is about.
+fn answer_about(memory: Memory, subject: &str, input: &str) -> Result<Answer, Stop> {
+    Ok(Answer::Replied(match subject {
+        "accepted" => return Ok(Answer::Accepted),
+        "done" => done(input)?,
+        "refused" => Reply::Refused(refusal(input)?),
+        _ => table(memory, input)?,
+    }))
 }
 
-/// Writes the text of a reply, if it has one.
-fn write_printed(out: &mut String, memory: Memory, reply: &Reply) -> Result<(), Stop> {
-    if !is_printable_reply(reply) {
-        out.push_str("no text")?;
-        return Ok(());
+/// Writes a table in the form that a command names.
+fn write_table(
+    sink: &mut VecSink,
+    memory: Memory,
+    command: &str,
+    table: &ResultTable,
+) -> Result<(), Stop> {
+    if !is_printable_table(table) {
+        return Err(Stop::NoText);
     }
-    let mut sink = VecSink::new(Vec::new(memory));
-    write_reply(&mut sink, reply).ok().ok_or(NO_MEMORY)?;
-    write_held(out, sink)
+    Ok(match command {
+        "csv" => write_csv_table(sink, table)?,
+        "jsonl" => write_json_rows(sink, table)?,
+        "box" => write_box_table(memory, sink, table)?,
+        _ => return Err(Stop::Form),
+    })
 }
 
-/// Writes the text of the answer to an accepted statement.
-fn write_accepted(out: &mut String, memory: Memory) -> Result<(), Stop> {
-    let mut sink = VecSink::new(Vec::new(memory));
-    write_answer(&mut sink, &Answer::Accepted)
-        .ok()
-        .ok_or(NO_MEMORY)?;
-    write_held(out, sink)
+/// Writes an answer as it is printed, or a table in the form that a command names.
+fn write_plain(
+    sink: &mut VecSink,
+    memory: Memory,
+    command: &str,
+    answer: &Answer,
+) -> Result<(), Stop> {
+    match answer {
+        Answer::Accepted => Ok(write_answer(sink, answer)?),
+        Answer::Replied(Reply::Table(table)) if command != "rows" => {
+            write_table(sink, memory, command, table)
+        }
+        Answer::Replied(reply) if is_printable_reply(reply) => Ok(write_reply(sink, reply)?),
+        _ => Err(Stop::NoText),
+    }
 }
 
 /// The number and the line of each statement whose answer is printed as JSON.
@@ -109,116 +126,68 @@ fn is_printable_answer(answer: &Answer) -> bool
     }
 }
 
-/// Writes a table as comma-separated values.
-fn write_csv(out: &mut String, memory: Memory, reply: &Reply) -> Result<(), Stop> {
-    match reply {
-        Reply::Table(table) if is_printable_table(table) => {
-            let mut sink = VecSink::new(Vec::new(memory));
-            write_csv_table(&mut sink, table).ok().ok_or(NO_MEMORY)?;
-            write_held(out, sink)
-        }
-        _ => Err(Stop::Form),
-    }
-}
-
-/// Writes the rows of a table as JSON Lines.
-fn write_jsonl(out: &mut String, memory: Memory, reply: &Reply) -> Result<(), Stop> {
-    match reply {
-        Reply::Table(table) if is_printable_table(table) => {
-            let mut sink = VecSink::new(Vec::new(memory));
-            write_json_rows(&mut sink, table).ok().ok_or(NO_MEMORY)?;
-            write_held(out, sink)
-        }
-        _ => Err(Stop::Form),
-    }
-}
-
-/// Writes a table in a box.
-fn write_box(out: &mut String, memory: Memory, reply: &Reply) -> Result<(), Stop> {
-    match reply {
-        Reply::Table(table) if is_printable_table(table) => {
-            let mut sink = VecSink::new(Vec::new(memory));
-            write_box_table(memory, &mut sink, table)
-                .ok()
-                .ok_or(NO_MEMORY)?;
-            write_held(out, sink)
-        }
-        _ => Err(Stop::Form),
-    }
-}
-
 /// Writes an answer as a line of JSON.
-fn write_json(
-    out: &mut String,
-    memory: Memory,
-    answer: &Answer,
-    diagnostic: Diagnostic<'_>,
-) -> Result<(), Stop> {
+fn write_json(sink: &mut VecSink, answer: &Answer, diagnostic: Diagnostic<'_>) -> Result<(), Stop> {
     if !is_printable_answer(answer) {
-        return Err(Stop::Form);
+        return Err(Stop::NoText);
     }
-    let mut sink = VecSink::new(Vec::new(memory));
-    write_json_answer(&mut sink, STATEMENT, LINE, answer, diagnostic)
-        .ok()
-        .ok_or(NO_MEMORY)?;
-    write_held(out, sink)
+    Ok(write_json_answer(sink, STATEMENT, LINE, answer, diagnostic)?)
 }
 
-/// Writes a refusal as a line of JSON. The input is its number, the column of its fault, its row and the detail, each
-/// `-` if unknown. The constraint has these columns. It and the hint have the name of the first.
-fn write_fault<'a>(
-    out: &mut String,
-    memory: Memory,
+/// Returns a text, unless it is `-`.
+fn known(text: &str) -> Option<&str> {
+    if text == "-" { None } else { Some(text) }
+}
+
+/// Returns the diagnostic of a refusal. The text has the column of its fault, its row and the detail, each `-` if
+/// unknown. The constraint has these columns. It and the hint have the name, unless it is `-`.
+fn diagnostic<'a>(
     columns: &'a [String<Memory>],
-    input: &'a str,
-) -> Result<(), Stop> {
-    let (number, others) = two(input)?;
-    let (column, others) = two(others)?;
+    name: &'a str,
+    text: &'a str,
+) -> Result<Diagnostic<'a>, Stop> {
+    let (column, others) = two(text)?;
     let (row, detail) = two(others)?;
-    let mut diagnostic = Diagnostic::NONE;
-    diagnostic.column = column.parse().ok();
-    diagnostic.row = row.parse().ok();
-    if detail != "-" {
-        diagnostic.detail = Some(detail);
-    }
-    if let [name, ..] = columns
-        && name.as_str() != "-"
-    {
-        diagnostic.hint = Some(name.as_str());
-        diagnostic.constraint = Some(name.as_str());
-        diagnostic.columns = Some(columns);
-    }
-    let reply = Reply::Refused(refusal(number)?);
-    write_json(out, memory, &Answer::Replied(reply), diagnostic)
+    let name = known(name);
+    Ok(Diagnostic {
+        column: column.parse().ok(),
+        detail: known(detail),
+        hint: name,
+        constraint: name,
+        columns: if name.is_some() { Some(columns) } else { None },
+        row: row.parse().ok(),
+    })
 }
 
-/// Answers a line about an answer as JSON.
-fn answer_json(memory: Memory, line: &Line<'_>, out: &mut String) -> Result<(), Stop> {
-    let reply = match line.command {
-        "json_done" => done(line.input)?,
-        "json_refused" => Reply::Refused(refusal(line.input)?),
-        "json_rows" => table(memory, line.input)?,
-        "json_accepted" => return write_json(out, memory, &Answer::Accepted, Diagnostic::NONE),
-        "json_fault" => {
-            let (names, known) = two(line.input)?;
-            let columns = headings(memory, names)?;
-            return write_fault(out, memory, columns.as_slice(), known);
-        }
-        _ => return Err(Stop::Form),
-    };
-    write_json(out, memory, &Answer::Replied(reply), Diagnostic::NONE)
+/// Writes a refusal as a line of JSON. The input is the name of its constraint and of the only column of it, the number
+/// of the refusal, and its diagnostic.
+fn write_fault(sink: &mut VecSink, memory: Memory, input: &str) -> Result<(), Stop> {
+    let (name, others) = two(input)?;
+    let (number, others) = two(others)?;
+    let refusal = refusal(number)?;
+    let columns = headings(memory, name)?;
+    let diagnostic = diagnostic(&columns, name, others)?;
+    write_json(sink, &Answer::Replied(Reply::Refused(refusal)), diagnostic)
+}
+
+/// Writes the answer that a line is about, in the form that its command names.
+fn write_line(sink: &mut VecSink, memory: Memory, line: &Line<'_>) -> Result<(), Stop> {
+    if line.command == "json_fault" {
+        return write_fault(sink, memory, line.input);
+    }
+    let subject = line.command.strip_prefix("json_");
+    let answer = answer_about(memory, subject.unwrap_or(line.command), line.input)?;
+    match subject {
+        Some(_) => write_json(sink, &answer, Diagnostic::NONE),
+        None => write_plain(sink, memory, line.command, &answer),
+    }
 }
 
 /// Answers a line about a reply.
 pub fn answer(memory: Memory, line: &Line<'_>, out: &mut String) -> Result<(), Stop> {
-    match line.command {
-        "done" => write_printed(out, memory, &done(line.input)?),
-        "refused" => write_printed(out, memory, &Reply::Refused(refusal(line.input)?)),
-        "rows" => write_printed(out, memory, &table(memory, line.input)?),
-        "accepted" => write_accepted(out, memory),
-        "csv" => write_csv(out, memory, &table(memory, line.input)?),
-        "jsonl" => write_jsonl(out, memory, &table(memory, line.input)?),
-        "box" => write_box(out, memory, &table(memory, line.input)?),
-        _ => answer_json(memory, line, out),
-    }
+    let mut sink = VecSink::new(Vec::new(memory));
+    write_line(&mut sink, memory, line)?;
+    let bytes = sink.into_bytes();
+    out.push_str(str::from_utf8(&bytes).ok().ok_or(Stop::Form)?)?;
+    Ok(())
 }

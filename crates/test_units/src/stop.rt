@@ -1,5 +1,6 @@
 //! The reasons why a line has no answer of its own.
 use std::alloc::{AllocError, AllocFailed};
+use tql_result::device::DeviceFault;
 use tql_value::refusal::Refusal;
 
 /// The reason why a line has no answer of its own.
@@ -7,6 +8,8 @@ use tql_value::refusal::Refusal;
 pub enum Stop {
     /// The line does not have the form that its command requires.
     Form,
+    /// The answer has a value that has no text.
+    NoText,
     /// The command was refused.
     Refused(Refusal),
 }
@@ -16,6 +19,7 @@ impl Stop {
     pub fn text(self) -> &'static str {
         match self {
             Stop::Form => "this is not how the line is written",
+            Stop::NoText => "no text",
             Stop::Refused(refusal) => refusal.text(),
         }
     }
@@ -29,6 +33,13 @@ impl From<Refusal> for Stop {
 
 impl From<AllocError> for Stop {
     fn from(_error: AllocError) -> Self {
+        Stop::Refused(Refusal::OutOfMemory)
+    }
+}
+
+/// A sink into a vector fails only for lack of memory.
+impl From<DeviceFault> for Stop {
+    fn from(_fault: DeviceFault) -> Self {
         Stop::Refused(Refusal::OutOfMemory)
     }
 }

@@ -12,7 +12,7 @@ use tql_value::text::{Text, characters};
 use tql_value::truth::Truth;
 use tql_value::value::{Kind, Value, View};
 
-const SIGNS: [Comparison; 6] = [
+static SIGNS: [Comparison; 6] = [
     Comparison::Equal,
     Comparison::NotEqual,
     Comparison::Less,
@@ -21,7 +21,7 @@ const SIGNS: [Comparison; 6] = [
     Comparison::GreaterOrEqual,
 ];
 
-const REFUSALS: [Refusal; 25] = [
+static REFUSALS: [Refusal; 25] = [
     Refusal::OutOfMemory,
     Refusal::NotAStatement,
     Refusal::NotUtf8,
@@ -62,7 +62,7 @@ fn letter(truth: Truth) -> char {
 fn write_comparison(out: &mut String, text: &str) -> Result<(), Stop> {
     let (a, b) = sides(text)?;
     let (a, b) = (view(a)?, view(b)?);
-    for sign in SIGNS {
+    for &sign in &SIGNS {
         out.push(letter(compare(sign, a, b)))?;
     }
     out.push_str(match order(a, b) {
@@ -112,7 +112,7 @@ fn write_table(out: &mut String, number: usize) -> Result<(), Stop> {
 /// Returns the refusal with this number.
 pub fn refusal(number: &str) -> Result<Refusal, Stop> {
     let number = count(number)?;
-    for refusal in REFUSALS {
+    for &refusal in &REFUSALS {
         if refusal.number() as usize == number {
             return Ok(refusal);
         }
