@@ -1,15 +1,15 @@
 //! tql_store: the versions that readings by values find in a history, compared with a reading of all versions.
-ghost use Rattle.std.specs.Prelude.{IfOk, IsTrue};
-ghost use Rattle.tql_store.specs.StoreModel.{has_table as table_there, AreRemovable};
+ghost use Rattle.std.specs.Prelude.{IsTrue};
+ghost use Rattle.tql_store.specs.StoreModel.{has_table as table_there, is_versioned as table_versioned};
 
-use crate::tests::stores::{current_ids, lists};
+use crate::tests::stores::{lists, renewal};
 use std::alloc::AllocError;
 use std::process::Abort;
 use std::test::Fail;
 use tql_index::tree_index::TreeIndex;
 use tql_memory::{Memory, memory};
 use tql_row::row::Row;
-use tql_store::store::{Delta, Store};
+use tql_store::store::Store;
 use tql_value::refusal::Refusal;
 use tql_value::table::TableId;
 use tql_value::value::View;
@@ -25,27 +25,6 @@ fn rows_of(memory: Memory, count: i64, round: i64) -> Result<Vec<Row, Memory>, R
         rows.push(row)?;
     }
     Ok(rows)
-}
-
-/// Returns a change that removes all rows and adds those of the round.
-fn renewal(
-    memory: Memory,
-    store: &Store<TreeIndex>,
-    table: TableId,
-    count: i64,
-    round: i64,
-) -> Result<Delta, Refusal>
-    requires { IsTrue (table_there store.now table) }
-    ensures { IfOk result (λ d. AreRemovable store.now d.table d.removed.items) }
-{
-    let added = rows_of(memory, count, round)?;
-    let removed = current_ids(memory, store, table)?;
-    Ok(Delta {
-        table,
-        removed,
-        added,
-        count: 1,
-    })
 }
 
 /// Whether a version has the number, and the day of the round, if there is one.
@@ -83,7 +62,24 @@ fn are_those(
         })
 }
 
-/// Whether the versions of every seventh number are found by it, and by it together with the day of the first round.
+/// Whether the versions of a number among `found` are found by it, and by it together with the day of the first round.
+fn is_found(
+    store: &Store<TreeIndex>,
+    table: TableId,
+    when: When,
+    found: &[Version<'_>],
+    number: i64,
+) -> Result<bool, AllocError>
+    requires there { IsTrue (table_there store.now table) }
+    requires versioned { IsTrue (table_versioned store.now table) }
+{
+    let tuple = [View::Day(1), View::Int(number)];
+    let by_number = store.found_with(table, &[0], &tuple[1..], when)?;
+    let by_both = store.found_with(table, &[1, 0], &tuple, when)?;
+    Ok(are_those(found, &by_number, number, None) && are_those(found, &by_both, number, Some(1)))
+}
+
+/// Whether the versions of every seventh number are found so.
 fn agree(
     store: &Store<TreeIndex>,
     table: TableId,
@@ -97,26 +93,28 @@ fn agree(
     let mut are_right = true;
     for number in 0..count {
         if number % 7 == 0 {
-            let tuple = [View::Day(1), View::Int(number)];
-            let by_number = store.found_with(table, &[0], &tuple[1..], when)?;
-            let by_both = store.found_with(table, &[1, 0], &tuple, when)?;
-            are_right = are_right
-                && are_those(&found, &by_number, number, None)
-                && are_those(&found, &by_both, number, Some(1));
+            are_right = is_found(store, table, when, &found, number)? && are_right;
         }
     }
     Ok(are_right)
 }
 
+/// The kinds of readings.
+static READINGS: [When; 5] = [
+    When::Now,
+    When::AsOf(10),
+    When::AsOf(25),
+    When::FromTo(0, HIGH),
+    When::Between(20, 30),
+];
+
 /// Whether `agree` holds in each kind of reading.
 fn all_agree(store: &Store<TreeIndex>, table: TableId, count: i64) -> Result<bool, AllocError> {
-    Ok(
-        agree(store, table, count, When::Now)?
-            && agree(store, table, count, When::AsOf(10))?
-            && agree(store, table, count, When::AsOf(25))?
-            && agree(store, table, count, When::FromTo(0, HIGH))?
-            && agree(store, table, count, When::Between(20, 30))?,
-    )
+    let mut are_right = true;
+    for &when in &READINGS {
+        are_right = agree(store, table, count, when)? && are_right;
+    }
+    Ok(are_right)
 }
 
 /// Renews the rows in the open transaction, with `granted` allocations. Returns whether they were enough.
@@ -130,7 +128,8 @@ fn renews(
 ) -> Result<bool, Fail> {
     let (little, all) = memories;
     assert!(rt; store.has_transaction() && store.has_table(table));
-    let delta = renewal(all, store, table, count, round)?;
+    let rows = rows_of(all, count, round)?;
+    let delta = renewal(all, store, table, rows)?;
     assert!(rt; store.has_table(delta.table));
     little.grant(granted);
     let made = store.apply(delta).is_ok();
@@ -167,19 +166,18 @@ fn transacts(
     Ok((made, all_agree(store, table, count)? && are_right))
 }
 
-/// Runs five rounds in a new store. The fourth has `granted` allocations at first, and is rolled back or kept. Returns
-/// whether no allocation failed, and whether all readings were right.
-fn is_right(
+/// Runs five rounds in a store without tables. The fourth has `granted` allocations at first, and is rolled back or
+/// kept. Returns whether no allocation failed, and whether all readings were right.
+fn runs(
     rt: &impl Abort,
     memories: (Memory, Memory),
+    store: &mut Store<TreeIndex>,
     count: i64,
     granted: u64,
     keep: bool,
 ) -> Result<(bool, bool), Fail> {
-    let (little, all) = memories;
-    let mut store: Store<TreeIndex> = Store::new(little);
     assert!(rt; store.table_count() < 1000);
-    let table = store.add_table(true, lists(all)?, Some((1, 2)))?;
+    let table = store.add_table(true, lists(memories.1)?, Some((1, 2)))?;
     let mut was_made = true;
     let mut are_right = true;
     for round in 1..6 {
@@ -188,19 +186,24 @@ fn is_right(
         } else {
             (u64::MAX, true)
         };
-        let (made, right) = transacts(
-            rt,
-            memories,
-            &mut store,
-            table,
-            (count, round),
-            growths,
-            kept,
-        )?;
+        let round = (count, round);
+        let (made, right) = transacts(rt, memories, store, table, round, growths, kept)?;
         was_made = was_made && made;
         are_right = are_right && right;
     }
     Ok((was_made, are_right))
+}
+
+/// Does the same in a new store.
+fn is_right(
+    rt: &impl Abort,
+    memories: (Memory, Memory),
+    count: i64,
+    granted: u64,
+    keep: bool,
+) -> Result<(bool, bool), Fail> {
+    let mut store: Store<TreeIndex> = Store::new(memories.0);
+    runs(rt, memories, &mut store, count, granted, keep)
 }
 
 #[test]

@@ -1,7 +1,8 @@
 //! tql_store: the memory that a change takes.
 ghost use Rattle.tql_store.specs.StoreModel.{AreRemovable};
 
-use crate::tests::prunings::{add, change, renewal};
+use crate::tests::prunings::{add, change};
+use crate::tests::stores::renewal;
 use std::process::Abort;
 use std::test::Fail;
 use tql_index::tree_index::TreeIndex;
@@ -31,16 +32,24 @@ fn taken_by(
     taken
 }
 
+/// Returns how many bytes a removal of a hundred rows takes in a store without tables.
+fn taken_by_removal(
+    rt: &impl Abort,
+    (own, all): (Memory, Memory),
+    store: &mut Store<TreeIndex>,
+) -> Result<usize, Fail> {
+    let table = add(rt, all, store, false)?;
+    change(rt, all, store, table, &[7; 100], 10)?;
+    assert!(rt; store.has_table(table));
+    let delta = renewal(all, store, table, Vec::new(all))?;
+    Ok(taken_by(rt, own, store, 20, delta))
+}
+
 #[test]
 fn a_removal_notes_the_position_of_each_row_once(rt: HostRuntime) -> Result<(), Fail> {
-    let all = memory(rt.alloc(), u64::MAX)?;
     let own = memory(rt.alloc(), u64::MAX)?;
+    let all = memory(rt.alloc(), u64::MAX)?;
     let mut store: Store<TreeIndex> = Store::new(own);
-    let table = add(&rt, all, &mut store, false)?;
-    change(&rt, all, &mut store, table, &[7; 100], 10)?;
-    assert!(rt; store.has_table(table));
-    let delta = renewal(all, &store, table, &[])?;
-    let taken = taken_by(&rt, own, &mut store, 20, delta);
-    assert!(rt; taken == 800);
+    assert!(rt; taken_by_removal(&rt, (own, all), &mut store)? == 800);
     Ok(())
 }

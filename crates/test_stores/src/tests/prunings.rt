@@ -1,22 +1,21 @@
 //! tql_store: the versions that a horizon leaves, at once and later, also where no memory is left.
-ghost use Rattle.std.specs.Prelude.{IfOk, IsTrue};
-ghost use Rattle.tql_store.specs.StoreModel.{has_table as table_there, AreRemovable};
+ghost use Rattle.std.specs.Prelude.{IsTrue};
+ghost use Rattle.tql_store.specs.StoreModel.{has_table as table_there};
 
-use crate::tests::stores::{Shown, current_ids, lists, row_of, shown, transact};
+use crate::tests::stores::{Shown, lists, renewal, row_of, shown, transact};
 use std::alloc::AllocError;
 use std::process::Abort;
-use std::slice;
 use std::test::Fail;
 use tql_index::tree_index::TreeIndex;
 use tql_memory::{Memory, memory};
 use tql_row::row::Row;
-use tql_store::store::{Delta, Store};
+use tql_store::store::Store;
 use tql_value::calendar::FIRST_MOMENT;
 use tql_value::refusal::Refusal;
 use tql_value::table::TableId;
 use tql_value::value::View;
 use tql_value::when::When;
-use tql_versions::version::HIGH;
+use tql_versions::version::{HIGH, Version};
 
 /// Returns a row of each number.
 fn rows_of(memory: Memory, numbers: &[i64]) -> Result<Vec<Row, Memory>, Refusal> {
@@ -26,26 +25,6 @@ fn rows_of(memory: Memory, numbers: &[i64]) -> Result<Vec<Row, Memory>, Refusal>
         rows.push(row)?;
     }
     Ok(rows)
-}
-
-/// Returns a change that removes all rows and adds one of each number.
-pub fn renewal(
-    memory: Memory,
-    store: &Store<TreeIndex>,
-    table: TableId,
-    numbers: &[i64],
-) -> Result<Delta, Refusal>
-    requires { IsTrue (table_there store.now table) }
-    ensures { IfOk result (λ d. AreRemovable store.now d.table d.removed.items) }
-{
-    let added = rows_of(memory, numbers)?;
-    let removed = current_ids(memory, store, table)?;
-    Ok(Delta {
-        table,
-        removed,
-        added,
-        count: 1,
-    })
 }
 
 /// Replaces all rows of a table at the moment by one of each number.
@@ -58,21 +37,11 @@ pub fn change(
     moment: i64,
 ) -> Result<(), Fail> {
     assert!(rt; store.has_table(table));
-    let delta = renewal(all, store, table, numbers)?;
+    let rows = rows_of(all, numbers)?;
+    let delta = renewal(all, store, table, rows)?;
     let made = transact(rt, store, moment, delta, true);
     assert!(rt; made);
     Ok(())
-}
-
-/// Renews the row of a table at the moment. The new row has the moment as its number.
-fn renew(
-    rt: &impl Abort,
-    all: Memory,
-    store: &mut Store<TreeIndex>,
-    table: TableId,
-    moment: i64,
-) -> Result<(), Fail> {
-    change(rt, all, store, table, slice::from_ref(&moment), moment)
 }
 
 /// Adds a table whose rows are found by its first column, and by the second with the first.
@@ -87,122 +56,180 @@ pub fn add(
     Ok(table)
 }
 
-fn prune(rt: &impl Abort, store: &mut Store<TreeIndex>, horizon: i64) {
-    assert!(rt; !store.has_transaction() && store.horizon() <= horizon);
-    store.prune(horizon);
+/// Returns all versions of a table, or its rows if it keeps no history.
+fn versions(
+    store: &Store<TreeIndex>,
+    table: TableId,
+) -> Result<Vec<Version<'_>, Memory>, AllocError>
+    requires { IsTrue (table_there store.now table) }
+{
+    if store.is_versioned(table) {
+        store.found(table, When::FromTo(0, HIGH))
+    } else {
+        store.found(table, When::Now)
+    }
+}
+
+/// Returns the versions of a number just before a moment, or its rows if the table keeps no history.
+fn numbered(
+    store: &Store<TreeIndex>,
+    table: TableId,
+    number: i64,
+    end: i64,
+) -> Result<Vec<Version<'_>, Memory>, AllocError>
+    requires { IsTrue (table_there store.now table) }
+{
+    let values = [View::Int(number)];
+    if store.is_versioned(table) {
+        store.found_with(table, &[0], &values, When::AsOf(end.saturating_sub(1)))
+    } else {
+        store.with_key(table, &[0], &values)
+    }
+}
+
+/// Whether these are the one version.
+fn is_only(found: &[Version<'_>], one: Shown) -> bool {
+    found.len() == 1 && found.first().map(shown) == Some(one)
 }
 
 /// Whether the table has these versions and no others, and each of them is found by its number.
 fn keeps(store: &Store<TreeIndex>, table: TableId, those: &[Shown]) -> Result<bool, AllocError> {
-    if !store.has_table(table) || !store.is_versioned(table) {
+    if !store.has_table(table) {
         return Ok(false);
     }
-    let all = store.found(table, When::FromTo(0, HIGH))?;
+    let all = versions(store, table)?;
     let mut are_right = all.len() == those.len();
     for one in those {
-        let (number, _, end) = *one;
-        let last = When::AsOf(end.saturating_sub(1));
-        let found = store.found_with(table, &[0], &[View::Int(number)], last)?;
-        are_right = are_right
-            && all.iter().any(|version| shown(version) == *one)
-            && found.len() == 1
-            && found.first().map(shown) == Some(*one);
+        let found = numbered(store, table, one.0, one.2)?;
+        let is_there = all.iter().any(|version| shown(version) == *one);
+        are_right = is_there && is_only(&found, *one) && are_right;
     }
     Ok(are_right)
 }
 
-/// Asserts that the table has these versions and no others.
-fn check_kept(
+/// One of two tables.
+#[derive(Clone, Copy)]
+enum Side {
+    First,
+    Second,
+}
+
+/// A step of a history.
+#[derive(Clone, Copy)]
+enum Step {
+    /// Replaces all rows of a table at a moment by one of each number.
+    Change(Side, &'static [i64], i64),
+    /// Sets the horizon. No allocation is granted meanwhile.
+    Prune(i64),
+    /// Compares the versions of a table.
+    Keeps(Side, &'static [Shown]),
+}
+
+/// Takes a step, and returns whether the store is then as it should be.
+fn take(
     rt: &impl Abort,
-    store: &Store<TreeIndex>,
-    table: TableId,
-    those: &[Shown],
-) -> Result<(), Fail> {
-    let are_right = keeps(store, table, those)?;
-    assert!(rt; are_right);
-    Ok(())
-}
-
-/// Whether a table that keeps no history has the row.
-fn has_row(store: &Store<TreeIndex>, table: TableId, row: Shown) -> Result<bool, AllocError> {
-    if !store.has_table(table) || store.is_versioned(table) {
-        return Ok(false);
+    (own, all): (Memory, Memory),
+    store: &mut Store<TreeIndex>,
+    tables: (TableId, TableId),
+    step: Step,
+) -> Result<bool, Fail> {
+    match step {
+        Step::Change(side, numbers, moment) => {
+            change(rt, all, store, of_side(tables, side), numbers, moment)?;
+            Ok(true)
+        }
+        Step::Prune(horizon) => {
+            assert!(rt; !store.has_transaction() && store.horizon() <= horizon);
+            own.grant(0);
+            store.prune(horizon);
+            own.grant(u64::MAX);
+            Ok(store.horizon() == horizon)
+        }
+        Step::Keeps(side, versions) => Ok(keeps(store, of_side(tables, side), versions)?),
     }
-    let found = store.found(table, When::Now)?;
-    Ok(found.len() == 1 && found.first().map(shown) == Some(row))
 }
 
-#[test]
-fn a_horizon_leaves_what_ends_after_it(rt: HostRuntime) -> Result<(), Fail> {
-    let all = memory(rt.alloc(), u64::MAX)?;
-    let mut store: Store<TreeIndex> = Store::new(all);
-    let table = add(&rt, all, &mut store, true)?;
-    let brief = add(&rt, all, &mut store, false)?;
-    for moment in [10, 20, 30, 40] {
-        renew(&rt, all, &mut store, table, moment)?;
-        renew(&rt, all, &mut store, brief, moment.saturating_add(1))?;
+fn of_side((first, second): (TableId, TableId), side: Side) -> TableId {
+    match side {
+        Side::First => first,
+        Side::Second => second,
     }
-    assert!(rt; store.horizon() == FIRST_MOMENT);
-    prune(&rt, &mut store, 25);
-    assert!(rt; store.horizon() == 25);
-    check_kept(
-        &rt,
-        &store,
-        table,
-        &[(20, 20, 30), (30, 30, 40), (40, 40, HIGH)],
-    )?;
-    prune(&rt, &mut store, 30);
-    prune(&rt, &mut store, 30);
-    check_kept(&rt, &store, table, &[(30, 30, 40), (40, 40, HIGH)])?;
-    renew(&rt, all, &mut store, table, 50)?;
-    check_kept(
-        &rt,
-        &store,
-        table,
-        &[(30, 30, 40), (40, 40, 50), (50, 50, HIGH)],
-    )?;
-    prune(&rt, &mut store, HIGH);
-    check_kept(&rt, &store, table, &[(50, 50, HIGH)])?;
-    renew(&rt, all, &mut store, table, 60)?;
-    check_kept(&rt, &store, table, &[(50, 50, 60), (60, 60, HIGH)])?;
-    let is_there = has_row(&store, brief, (41, 41, HIGH))?;
-    assert!(rt; is_there && store.horizon() == HIGH);
-    Ok(())
 }
 
-#[test]
-fn a_horizon_needs_no_memory(rt: HostRuntime) -> Result<(), Fail> {
-    let all = memory(rt.alloc(), u64::MAX)?;
-    let little = memory(rt.alloc(), u64::MAX)?;
-    let mut store: Store<TreeIndex> = Store::new(little);
-    let one = add(&rt, all, &mut store, true)?;
-    let two = add(&rt, all, &mut store, true)?;
-    for moment in [10, 20, 30] {
-        renew(&rt, all, &mut store, one, moment)?;
-        renew(&rt, all, &mut store, two, moment.saturating_add(1))?;
+/// Whether the steps of a history lead where they should, in a store whose second table keeps a history or not.
+fn is_followed(
+    rt: &impl Abort,
+    memories: (Memory, Memory),
+    store: &mut Store<TreeIndex>,
+    versioned: bool,
+    steps: &[Step],
+) -> Result<bool, Fail> {
+    let (_, all) = memories;
+    let tables = (add(rt, all, store, true)?, add(rt, all, store, versioned)?);
+    let mut are_right = store.horizon() == FIRST_MOMENT;
+    for step in steps {
+        are_right = take(rt, memories, store, tables, *step)? && are_right;
     }
-    little.grant(0);
-    prune(&rt, &mut store, 25);
-    little.grant(u64::MAX);
-    assert!(rt; store.horizon() == 25);
-    check_kept(&rt, &store, one, &[(20, 20, 30), (30, 30, HIGH)])?;
-    check_kept(&rt, &store, two, &[(21, 21, 31), (31, 31, HIGH)])
+    Ok(are_right)
 }
 
-#[test]
-fn versions_that_move_are_found(rt: HostRuntime) -> Result<(), Fail> {
-    let all = memory(rt.alloc(), u64::MAX)?;
-    let mut store: Store<TreeIndex> = Store::new(all);
-    let table = add(&rt, all, &mut store, true)?;
-    change(&rt, all, &mut store, table, &[1, 2, 3], 10)?;
-    change(&rt, all, &mut store, table, &[4, 5], 20)?;
-    change(&rt, all, &mut store, table, &[6, 7], 30)?;
-    change(&rt, all, &mut store, table, &[8], 40)?;
-    prune(&rt, &mut store, 20);
-    check_kept(
-        &rt,
-        &store,
-        table,
+/// Does the same in a new store.
+fn is_right(
+    rt: &(impl Abort + AllocGlobal),
+    versioned: bool,
+    steps: &[Step],
+) -> Result<bool, Fail> {
+    let memories = (memory(rt.alloc(), u64::MAX)?, memory(rt.alloc(), u64::MAX)?);
+    let mut store: Store<TreeIndex> = Store::new(memories.0);
+    is_followed(rt, memories, &mut store, versioned, steps)
+}
+
+/// A history whose second table keeps none.
+static ENDED: [Step; 20] = [
+    Step::Change(Side::First, &[10], 10),
+    Step::Change(Side::Second, &[11], 11),
+    Step::Change(Side::First, &[20], 20),
+    Step::Change(Side::Second, &[21], 21),
+    Step::Change(Side::First, &[30], 30),
+    Step::Change(Side::Second, &[31], 31),
+    Step::Change(Side::First, &[40], 40),
+    Step::Change(Side::Second, &[41], 41),
+    Step::Prune(25),
+    Step::Keeps(Side::First, &[(20, 20, 30), (30, 30, 40), (40, 40, HIGH)]),
+    Step::Prune(30),
+    Step::Prune(30),
+    Step::Keeps(Side::First, &[(30, 30, 40), (40, 40, HIGH)]),
+    Step::Change(Side::First, &[50], 50),
+    Step::Keeps(Side::First, &[(30, 30, 40), (40, 40, 50), (50, 50, HIGH)]),
+    Step::Prune(HIGH),
+    Step::Keeps(Side::First, &[(50, 50, HIGH)]),
+    Step::Change(Side::First, &[60], 60),
+    Step::Keeps(Side::First, &[(50, 50, 60), (60, 60, HIGH)]),
+    Step::Keeps(Side::Second, &[(41, 41, HIGH)]),
+];
+
+/// A history in both tables.
+static OF_BOTH: [Step; 9] = [
+    Step::Change(Side::First, &[10], 10),
+    Step::Change(Side::Second, &[11], 11),
+    Step::Change(Side::First, &[20], 20),
+    Step::Change(Side::Second, &[21], 21),
+    Step::Change(Side::First, &[30], 30),
+    Step::Change(Side::Second, &[31], 31),
+    Step::Prune(25),
+    Step::Keeps(Side::First, &[(20, 20, 30), (30, 30, HIGH)]),
+    Step::Keeps(Side::Second, &[(21, 21, 31), (31, 31, HIGH)]),
+];
+
+/// A history whose versions move to other places.
+static MOVED: [Step; 11] = [
+    Step::Change(Side::First, &[1, 2, 3], 10),
+    Step::Change(Side::First, &[4, 5], 20),
+    Step::Change(Side::First, &[6, 7], 30),
+    Step::Change(Side::First, &[8], 40),
+    Step::Prune(20),
+    Step::Keeps(
+        Side::First,
         &[
             (4, 20, 30),
             (5, 20, 30),
@@ -210,15 +237,23 @@ fn versions_that_move_are_found(rt: HostRuntime) -> Result<(), Fail> {
             (7, 30, 40),
             (8, 40, HIGH),
         ],
-    )?;
-    change(&rt, all, &mut store, table, &[9], 50)?;
-    prune(&rt, &mut store, 30);
-    check_kept(
-        &rt,
-        &store,
-        table,
+    ),
+    Step::Change(Side::First, &[9], 50),
+    Step::Prune(30),
+    Step::Keeps(
+        Side::First,
         &[(6, 30, 40), (7, 30, 40), (8, 40, 50), (9, 50, HIGH)],
-    )?;
-    prune(&rt, &mut store, 45);
-    check_kept(&rt, &store, table, &[(8, 40, 50), (9, 50, HIGH)])
+    ),
+    Step::Prune(45),
+    Step::Keeps(Side::First, &[(8, 40, 50), (9, 50, HIGH)]),
+];
+
+/// Tests that a horizon leaves what ends after it, and needs no memory.
+#[test]
+fn a_horizon_leaves_what_ends_after_it(rt: HostRuntime) -> Result<(), Fail> {
+    let ended = is_right(&rt, false, &ENDED)?;
+    let of_both = is_right(&rt, true, &OF_BOTH)?;
+    let moved = is_right(&rt, true, &MOVED)?;
+    assert!(rt; ended && of_both && moved, "{ended}, {of_both}, {moved}");
+    Ok(())
 }
