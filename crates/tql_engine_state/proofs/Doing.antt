@@ -24,7 +24,7 @@ use Rattle.tql_spec.specs.Machine.{is_not_later, Prune, Pruned, change_faults, q
 use Rattle.tql_spec.specs.Machine.{Bound, OpenReader, OpenedReader, Read, CloseReader, ClosedReader, Defines}
 use Rattle.tql_spec.specs.Machine.{bag_in, effect, limit_faults, state_faults}
 use Rattle.tql_spec.specs.Machine.{is_clock_at_end, with_table, without_table, with_commit, working, asked, bag_of}
-use Rattle.tql_exec.specs.Steps.{ordered}
+use Rattle.tql_exec_steps.specs.Steps.{ordered}
 use Rattle.tql_expr.specs.Evaluated.{Fails}
 use Rattle.tql_value.specs.declared.refusal.Refusal as r
 use Rattle.tql_value.specs.declared.refusal.Refusal.TheVariants as variant

@@ -1,13 +1,4 @@
-pub mod Dropped
-pub mod OverBags
-pub mod Begun
-pub mod Early
-pub mod ScanRows
-pub mod ByKey
-pub mod ByPeriod
 pub mod OverSinks
 pub mod Lone
-pub mod LeftScans
-pub mod Crossed
 pub mod Counted
 pub mod Headings

@@ -2,10 +2,5 @@
 #![tactic(auto)]
 
 mod counting;
-mod joining;
-mod levels;
-mod multiplying;
 mod pushing;
 pub mod running;
-mod stepping;
-mod unlisted;

@@ -1,12 +1,7 @@
 pub mod Sources
 pub mod Chains
-pub mod Demanded
-pub mod DemandedKeys
 pub mod Asked
-pub mod Served
 pub mod MarkedKeys
 pub mod Named
 pub mod StoredColumns
-pub mod Steps
-pub mod DemandedPeriods
 pub mod Decisive

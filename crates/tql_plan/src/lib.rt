@@ -1,13 +1,12 @@
-//! Query planning: which versions are read, by which access path, and how they are joined. A plan does not depend on
-//! the contents of the store.
+//! Plans: which versions are read, by which access path, and how they are joined, and the choice of each. A plan does
+//! not depend on the contents of the store.
 #![tactic(auto)]
 
-mod accesses;
+pub mod accesses;
 pub mod counts;
-mod keys;
+pub mod keys;
 mod marks;
 pub mod plan;
-pub mod planner;
-mod products;
+pub mod products;
 pub mod stored;
-mod widths;
+pub mod widths;

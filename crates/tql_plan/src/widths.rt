@@ -16,7 +16,7 @@ pub(crate) fn chain_width(chain: &Chain) -> usize
 }
 
 /// Returns the number of columns of all these chains together.
-pub(crate) fn width_of(chains: &[Chain]) -> usize
+pub fn width_of(chains: &[Chain]) -> usize
     ensures { result ≡ chains_width 0 chains.now }
 {
     let mut width = 0_usize;

@@ -19,7 +19,6 @@ pub mod Searching
 pub mod Putting
 pub mod Pins
 pub mod Pinning
-pub mod Questions
 pub mod Ends
 pub mod Looking
 pub mod Counting

@@ -19,10 +19,11 @@ use Rattle.tql_value.specs.declared.when.When.{When}
 use Rattle.tql_store.proofs.Ends.{AreBounded}
 use Rattle.tql_store.proofs.Numbers.{self_number}
 use Rattle.tql_store.proofs.Pinning.{live-pinned, none-live, shown_kept, slot_shown, versions_shown}
-use Rattle.tql_store.proofs.Questions.{nothing_found}
+use Rattle.tql_pinned.proofs.Questions.{nothing_found}
 use Rattle.tql_store.proofs.Searching.{answers-by, filter_both}
 use Rattle.tql_store.proofs.StoreLaws.{same-list}
-use Rattle.tql_store.specs.Pinned.{answer_capped, capped, pinned, shown_at, slot_pinned, AsksAt}
+use Rattle.tql_pinned.specs.Asked.{answer_capped, capped, shown_at, AsksAt}
+use Rattle.tql_store.specs.Pinned.{pinned, slot_pinned}
 use Rattle.tql_store.specs.StoreModel.{StoreModel, has_table, is_versioned, live, named}
 use Rattle.tql_store.specs.TableSlots.{slot_at, is_kept, is_taken}
 use Rattle.tql_store.specs.Views.{IsFound, Names, NamesOnce}

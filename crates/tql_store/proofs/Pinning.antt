@@ -17,7 +17,8 @@ use Rattle.tql_store.proofs.Pins.{begun_versions, pin-stands, told_below}
 use Rattle.tql_store.proofs.TableLaws.{told-emptied, none-stands, newest-emptied}
 use Rattle.tql_store.specs.Changes.{newest, emptied}
 use Rattle.tql_store.specs.Kept.{kept_of, oldest}
-use Rattle.tql_store.specs.Pinned.{capped, shown_at, slot_pinned, versions_of_slot, versions_pinned, pinned, not_after}
+use Rattle.tql_pinned.specs.Asked.{capped, shown_at}
+use Rattle.tql_store.specs.Pinned.{slot_pinned, versions_of_slot, versions_pinned, pinned, not_after}
 use Rattle.tql_store.specs.Pinned.{until_pin, IsPin, PinCopies}
 use Rattle.tql_store.specs.Represents.{horizon_of, StandsWith}
 use Rattle.tql_store.specs.Stands.{Within, Told, StandsFor}

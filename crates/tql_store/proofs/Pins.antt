@@ -12,7 +12,8 @@ use Rattle.tql_spec.specs.History.{Entry, TableEntry, rows_in, table_history, wi
 use Rattle.tql_spec.specs.ReaderLaws as laws
 use Rattle.tql_store.proofs.Apply.{in-filter, lt_true, le_true}
 use Rattle.tql_store.proofs.Readings.{beyond, under, stands_tells, sum-picked}
-use Rattle.tql_store.specs.Pinned.{capped, not_after, until_pin, IsPin}
+use Rattle.tql_pinned.specs.Asked.{capped}
+use Rattle.tql_store.specs.Pinned.{not_after, until_pin, IsPin}
 use Rattle.tql_store.specs.Stands.{stands_at, Within, Fits, Told, StandsFor}
 
 -- ---- one table

@@ -1,14 +1,10 @@
 -- The store shown at a pin: as it was when the commit of that moment was the last one.
-use Rattle.std.specs.Prelude.{◌≡◌, ℕ, List, [], ◌∷◌, map, ℤ, ◌≤ℤ◌, int_le, int_lt, Option, Some, None}
+use Rattle.std.specs.Prelude.{◌≡◌, ℕ, List, [], ◌∷◌, map, ℤ, int_le, Option, Some, None}
 use Rattle.std.specs.Prelude.{if◌then◌else◌}
 use Rattle.tql_spec.specs.Bag.{In}
-use Rattle.tql_spec.specs.Calendar.{high}
 use Rattle.tql_spec.specs.Definition.{Version}
 use Rattle.tql_spec.specs.History.{TableEntry}
-use Rattle.tql_versions.specs.Changes.{nothing}
-use Rattle.tql_versions.specs.Readings.{is_answer}
-use Rattle.tql_versions.specs.declared.version.Version as answer
-use Rattle.tql_value.specs.declared.when.When.{When}
+use Rattle.tql_pinned.specs.Asked.{shown_at}
 use Rattle.tql_store.specs.Changes.{emptied}
 use Rattle.tql_store.specs.Represents.{Copies, Working, Represents}
 use Rattle.tql_store.specs.StoreModel.{StoreModel}
@@ -17,21 +13,6 @@ use Rattle.tql_store.specs.declared.snapshot.Position.{Position}
 use Rattle.tql_store.specs.declared.snapshot.Position.TheVariants.{Now, At}
 use Rattle.tql_store.specs.declared.tables.TableSlot.{TableSlot}
 use Rattle.tql_store.specs.declared.tables.TableSlot.TheVariants.{Free}
-
--- ---- versions
-
--- an end as known when the commit of a moment was the last one: `high` if the version was ended later
-abbrev pub end_told : ℤ → ℤ → ℤ
-end_told p end = if int_lt p end then high else end
-
--- a version as it was then
-abbrev pub capped : ℤ → Version → Version
-capped p v = record { row = v.row; end = end_told p v.end }
-
--- the version shown at a pin: an empty one if the version had not begun; before any commit none had
-abbrev pub shown_at : Option ℤ → Version → Version
-shown_at None v = nothing
-shown_at (Some p) v = if int_le v.row.start p then capped p v else nothing
 
 -- ---- tables
 
@@ -63,16 +44,6 @@ pinned pin h = record {
 abbrev pub store_at : Position → StoreModel → StoreModel
 store_at Now h = h
 store_at (At pin) h = pinned pin h
-
--- ---- queries
-
--- a query on a store whose versions end by the highest moment that selects the versions which `when` selects at a pin
-pub record AsksAt (p : ℤ) (when other : When) : Type 0 where
-  pub tells : (v : Version) → v.end ≤ℤ high → is_answer when (shown_at (Some p) v) ≡ is_answer other v
-
--- an answer as it was at a pin
-abbrev pub answer_capped : ℤ → answer.Version → answer.Version
-answer_capped p s = record { id = s.id; kept = s.kept; end = end_told p s.end }
 
 -- ---- copies
 

@@ -30,7 +30,6 @@ ghost use Rattle.tql_value.specs.declared.when.When.TheVariants.{Now};
 ghost use Rattle.tql_value.specs.When.{is_now, when_of};
 ghost use Rattle.tql_value.specs.declared.refusal.Refusal.TheVariants.{OutOfMemory};
 
-use crate::asking::{question_at, versions_at};
 use crate::pruning::prune_each;
 use crate::tables::{TableSlot, clear_place, free_table, place_at, put_table, taken_count};
 use crate::turns::{commit_each, note, put_rows, set_rows, undo_each};
@@ -39,6 +38,7 @@ use std::marker::Model;
 use tql_index::index::IntervalIndex;
 use tql_memory::Memory;
 use tql_period::period::Period;
+use tql_pinned::asking::{question_at, versions_at};
 use tql_row::row::Row;
 use tql_store_index::basis::Sought;
 use tql_store_rows::versions::Versions;

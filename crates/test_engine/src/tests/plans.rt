@@ -15,7 +15,7 @@ use tql_bound::query::BoundQuery;
 use tql_catalog::catalog::Catalog;
 use tql_memory::{Memory, memory};
 use tql_plan::counts::Counts;
-use tql_plan::planner::plan;
+use tql_planner::planner::plan;
 use tql_syntax::text::read_text;
 use tql_syntax_tree::statement::Statement;
 use tql_syntax_tree::width::is_too_wide;

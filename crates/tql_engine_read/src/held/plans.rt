@@ -6,8 +6,8 @@ use tql_bound::bound::Bound;
 use tql_bound::query::BoundQuery;
 use tql_index::index::IntervalIndex;
 use tql_memory::Memory;
-use tql_plan::planner::plan;
 use tql_plan_told::told::plan_words;
+use tql_planner::planner::plan;
 use tql_syntax_tree::statement::{RowSource, SelectTree, Statement};
 
 /// Returns the SELECT of a query, of a READ, or of an INSERT from a query.

@@ -5,7 +5,7 @@ use tql_exec::running::{packed_rows, run};
 use tql_expr::row::Row;
 use tql_index::index::IntervalIndex;
 use tql_memory::Memory;
-use tql_plan::planner::plan;
+use tql_planner::planner::plan;
 use tql_result::reply::Reply;
 use tql_store::snapshot::Snapshot;
 use tql_value::refusal::Refusal;
@@ -19,7 +19,7 @@ impl<I: IntervalIndex> Held<'_, I> {
     ghost use Rattle.tql_bound.specs.Placed.{IsPlacedQuery};
     ghost use Rattle.tql_bound.specs.Queries.{bound_query_of};
     ghost use Rattle.tql_catalog.specs.Tables.{definitions_of};
-    ghost use Rattle.tql_exec.specs.Steps.{ordered};
+    ghost use Rattle.tql_exec_steps.specs.Steps.{ordered};
     ghost use Rattle.tql_exec_pairs.specs.Bags.{GivesBag};
     ghost use Rattle.tql_expr.specs.Evaluated.{Evaluated};
     ghost use Rattle.tql_value.specs.Views.{rows_of};

@@ -5,7 +5,7 @@ use Rattle.tql_bound.specs.Placed.{IsPlacedQuery}
 use Rattle.tql_bound.specs.Queries.{bound_query_of, references_of}
 use Rattle.tql_bound.specs.declared.query.BoundQuery.{BoundQuery}
 use Rattle.tql_catalog.specs.Tables.{definitions_of}
-use Rattle.tql_exec.specs.Steps.{ordered}
+use Rattle.tql_exec_steps.specs.Steps.{ordered}
 use Rattle.tql_expr.specs.Evaluated.{Evaluated}
 use Rattle.tql_value.specs.Views.{rows_of}
 use Rattle.tql_engine_state.specs.Showing.{CanAnswer, Shows}

@@ -5,7 +5,7 @@ use Rattle.tql_spec.specs.Machine.{Read, bag_in}
 use Rattle.tql_spec.specs.Query.{answer}
 use Rattle.tql_spec.specs.Readers.{pinned_of}
 use Rattle.tql_bound.specs.Queries.{bound_query_of}
-use Rattle.tql_exec.specs.Steps.{ordered}
+use Rattle.tql_exec_steps.specs.Steps.{ordered}
 use Rattle.tql_expr.specs.Evaluated.{Fails}
 use Rattle.tql_store.specs.Pinned.{PinCopies, pinned}
 use Rattle.tql_engine_state.specs.Readers.{pin_of, reader_of}

@@ -9,7 +9,8 @@ use Rattle.tql_store.proofs.Ends.{AreBounded, are-bounded}
 use Rattle.tql_store.proofs.Looking.{found-at, none-found}
 use Rattle.tql_store.proofs.Storing.{shows, versions-of}
 use Rattle.tql_store.specs.Orderly.{table_at}
-use Rattle.tql_store.specs.Pinned.{answer_capped, pinned, AsksAt}
+use Rattle.tql_pinned.specs.Asked.{answer_capped, AsksAt}
+use Rattle.tql_store.specs.Pinned.{pinned}
 use Rattle.tql_store.specs.StoreModel.{StoreModel, has_table}
 use Rattle.tql_store.specs.Views.{IsFound}
 use Rattle.tql_store.proofs.store.Store.look_at.Goals as goal
