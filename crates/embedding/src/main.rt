@@ -1,11 +1,8 @@
 //! An example program that uses the engine as a library. It runs a script and prints the refused statements. Then it
 //! queries the payments as the table had them at the end of March and now, and adds up the rows of each answer. It also
-//! prints the tables and the kinds of a query's columns, puts values into statements, and reads them back.
+//! prints the tables and the kinds of a query's columns, and puts values into a statement.
 #![tactic(auto)]
 
-mod values;
-
-use crate::values::read_back;
 use std::io;
 use tql::{
     Engine, Kind, Memory, Notes, Reply, ResultTable, SliceSource, TableDef, VecSink, View,
@@ -28,7 +25,7 @@ INSERT INTO play VALUES (3, 8000);
 ";
 
 /// The queries: the table as of the end of March, and now.
-const QUESTIONS: [&[u8]; 2] = [
+static QUESTIONS: [&[u8]; 2] = [
     b"SELECT * FROM pay FOR SYSTEM_TIME AS OF TIMESTAMP '2011-03-31 23:59:59'",
     b"SELECT * FROM pay",
 ];
@@ -176,7 +173,7 @@ fn main(rt: HostRuntime) -> io::Result<()> {
     let memory = memory_within(rt.alloc(), MOST_BYTES)?;
     let mut engine = Engine::new(memory);
     enter(&rt, memory, &mut engine)?;
-    for question in QUESTIONS {
+    for question in &QUESTIONS {
         ask(&rt, &mut engine, question)?;
     }
     print_tables(&rt, &engine)?;
@@ -193,6 +190,5 @@ fn main(rt: HostRuntime) -> io::Result<()> {
         "2011-04-04",
         "O'Hara's books; settled -- so far",
     )?;
-    print_days(&rt, memory, &mut engine)?;
-    read_back(&rt, memory, &mut engine)
+    print_days(&rt, memory, &mut engine)
 }

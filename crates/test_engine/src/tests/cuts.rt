@@ -37,8 +37,8 @@ fn is_answered_anywhere(rt: &impl AllocGlobal, script: Script) -> Result<bool, F
 
 #[test]
 fn a_script_is_cut_at_any_byte(rt: HostRuntime) -> Result<(), Fail> {
-    for (number, script) in SCRIPTS.into_iter().enumerate() {
-        assert!(rt; is_answered_anywhere(&rt, script)?, "script {number}");
+    for (number, script) in SCRIPTS.iter().enumerate() {
+        assert!(rt; is_answered_anywhere(&rt, *script)?, "script {number}");
     }
     Ok(())
 }

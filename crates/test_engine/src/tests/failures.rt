@@ -43,7 +43,7 @@ const TAKING_SEVEN: Setting = Setting {
 };
 
 /// The devices, and the failures of the source and of the sink.
-const DEVICES: [(Setting, Failing, Failing); 13] = [
+static DEVICES: [(Setting, Failing, Failing); 13] = [
     (SOUND, Failing::Nothing, Failing::Nothing),
     (TAKING_NONE, Failing::Nothing, Failing::Nothing),
     (SOUND, Failing::Reads, Failing::Nothing),
@@ -226,8 +226,8 @@ fn at_each_call(
 
 /// Runs a script on all devices. Returns the number of the first devices on which a run is wrong, if any.
 fn by_all_devices(rt: &impl AllocGlobal, script: Script) -> Result<Option<usize>, Fail> {
-    for (number, (setting, source, sink)) in DEVICES.into_iter().enumerate() {
-        if !at_each_call(rt, script, setting, source, sink)? {
+    for (number, (setting, source, sink)) in DEVICES.iter().enumerate() {
+        if !at_each_call(rt, script, *setting, *source, *sink)? {
             return Ok(Some(number));
         }
     }
@@ -236,8 +236,8 @@ fn by_all_devices(rt: &impl AllocGlobal, script: Script) -> Result<Option<usize>
 
 #[test]
 fn a_device_fails_at_any_call(rt: HostRuntime) -> Result<(), Fail> {
-    for (number, script) in SCRIPTS.into_iter().enumerate() {
-        let wrong = by_all_devices(&rt, script)?;
+    for (number, script) in SCRIPTS.iter().enumerate() {
+        let wrong = by_all_devices(&rt, *script)?;
         assert!(rt; wrong.is_none(), "script {number}: devices {wrong:?}");
     }
     Ok(())

@@ -30,7 +30,7 @@ const EMPLOYEES: &str = "CREATE TABLE emp (eno INTEGER, dept VARCHAR(10), estart
                          PERIOD FOR ep (estart, eend), PRIMARY KEY (eno, ep WITHOUT OVERLAPS))";
 
 /// Tables, queries, and in how many places their plans find rows by an equality, by a key, and by a period.
-const QUESTIONS: [(&str, &str, (usize, usize, usize)); 3] = [
+static QUESTIONS: [(&str, &str, (usize, usize, usize)); 3] = [
     (
         NUMBERS,
         "SELECT COUNT(*) FROM z a JOIN z b ON a.y = b.y",
@@ -89,10 +89,10 @@ fn counts_of(rt: &impl Abort, memory: Memory, tables: &Catalog, text: &str) -> R
 #[test]
 fn finds_rows_by_what_a_question_says(rt: HostRuntime) -> Result<(), Fail> {
     let memory = memory(rt.alloc(), u64::MAX)?;
-    for (table, question, found) in QUESTIONS {
+    for (table, question, found) in &QUESTIONS {
         let tables = catalog_of(&rt, memory, table)?;
         let counts = counts_of(&rt, memory, &tables, question)?;
-        assert!(rt; (counts.maps, counts.keys, counts.intervals) == found);
+        assert!(rt; (counts.maps, counts.keys, counts.intervals) == *found);
     }
     Ok(())
 }

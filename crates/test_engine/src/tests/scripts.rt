@@ -139,7 +139,7 @@ const OPEN: Script = &[
 ];
 
 /// The scripts.
-pub const SCRIPTS: [Script; 5] = [TABLES, TRANSACTIONS, PORTIONS, REFUSALS, OPEN];
+pub static SCRIPTS: [Script; 5] = [TABLES, TRANSACTIONS, PORTIONS, REFUSALS, OPEN];
 
 /// Returns the bytes of a script from a statement on.
 pub fn bytes_from(alloc: Global, script: Script, first: usize) -> Result<Vec<u8>, AllocError> {

@@ -1,5 +1,5 @@
-//! Statements given to `step`: COMMIT and ROLLBACK after memory has run out, one with its semicolon, and queries over
-//! an index whose lookups all fail.
+//! Statements given to `step`: COMMIT and ROLLBACK after memory has run out, queries over an index whose lookups all
+//! fail, and one with its semicolon.
 use crate::tests::Engine;
 use std::process::Abort;
 use std::test::Fail;
@@ -12,18 +12,21 @@ use tql_value::refusal::Refusal;
 /// More allocations than the statements of these tests make.
 const MOST_GROWTHS: u64 = 4000;
 
+/// Statements that open a transaction and change rows in it.
+static CHANGES: [&str; 6] = [
+    "CREATE TABLE log (x VARCHAR(4), s TIMESTAMP GENERATED ALWAYS AS ROW START, \
+     e TIMESTAMP GENERATED ALWAYS AS ROW END, PERIOD FOR SYSTEM_TIME (s, e)) WITH SYSTEM VERSIONING",
+    "INSERT INTO log VALUES ('one')",
+    "START TRANSACTION",
+    "DELETE FROM log",
+    "INSERT INTO log VALUES ('two')",
+    "UPDATE log SET x = 'six' WHERE x = 'two'",
+];
+
 /// Returns an engine in a transaction that has changed rows. None if the memory is not enough.
 fn changed_engine(memory: Memory) -> Option<Engine> {
     let mut engine = Engine::new(memory);
-    for text in [
-        "CREATE TABLE log (x VARCHAR(4), s TIMESTAMP GENERATED ALWAYS AS ROW START, \
-         e TIMESTAMP GENERATED ALWAYS AS ROW END, PERIOD FOR SYSTEM_TIME (s, e)) WITH SYSTEM VERSIONING",
-        "INSERT INTO log VALUES ('one')",
-        "START TRANSACTION",
-        "DELETE FROM log",
-        "INSERT INTO log VALUES ('two')",
-        "UPDATE log SET x = 'six' WHERE x = 'two'",
-    ] {
+    for text in &CHANGES {
         if !matches!(&engine.step(text.as_bytes()), Reply::Done(_, _)) {
             return None;
         }
@@ -44,38 +47,24 @@ fn spent_engine(rt: &(impl Abort + AllocGlobal)) -> Result<Engine, Fail> {
     panic!(rt; "no transaction")
 }
 
+/// The statements that end a transaction, and what each replies.
+static ENDS: [(&str, Verb); 2] = [
+    ("COMMIT", Verb::Committed),
+    ("ROLLBACK WORK", Verb::RolledBack),
+];
+
 #[test]
 fn ends_a_transaction_without_memory(rt: HostRuntime) -> Result<(), Fail> {
-    for (text, verb) in [
-        ("COMMIT", Verb::Committed),
-        ("ROLLBACK WORK", Verb::RolledBack),
-    ] {
+    for (text, verb) in &ENDS {
         let mut engine = spent_engine(&rt)?;
         let reply = engine.step(text.as_bytes());
-        assert!(rt; matches!(&reply, Reply::Done(found, None) if *found == verb));
+        assert!(rt; matches!(&reply, Reply::Done(found, None) if found == verb));
     }
     Ok(())
 }
 
-#[test]
-fn takes_no_semicolon_in_a_step(rt: HostRuntime) -> Result<(), Fail> {
-    let mut engine = Engine::new(memory(rt.alloc(), u64::MAX)?);
-    for (text, is_statement) in [
-        ("AT TIMESTAMP '2011-01-01 00:00:00';", false),
-        ("AT TIMESTAMP '2011-01-01 00:00:00'", true),
-    ] {
-        let reply = engine.step(text.as_bytes());
-        assert_eq!(rt;
-            matches!(&reply, Reply::Done(_, None)),
-            is_statement,
-            "{text}"
-        );
-    }
-    Ok(())
-}
-
-/// Statements for an index whose lookups all fail, and the refusal of each.
-const QUESTIONS: [(&str, Option<Refusal>); 8] = [
+/// Statements for an index whose lookups all fail, and the refusal of each. A step takes no semicolon.
+static QUESTIONS: [(&str, Option<Refusal>); 10] = [
     (
         "CREATE TABLE log (x INTEGER, s TIMESTAMP GENERATED ALWAYS AS ROW START, \
          e TIMESTAMP GENERATED ALWAYS AS ROW END, PERIOD FOR SYSTEM_TIME (s, e)) WITH SYSTEM VERSIONING",
@@ -101,6 +90,11 @@ const QUESTIONS: [(&str, Option<Refusal>); 8] = [
         "SELECT eno FROM emp WHERE ep CONTAINS DATE '2011-06-01'",
         Some(Refusal::OutOfMemory),
     ),
+    (
+        "AT TIMESTAMP '2011-01-01 00:00:00';",
+        Some(Refusal::NotAStatement),
+    ),
+    ("AT TIMESTAMP '2011-01-01 00:00:00'", None),
 ];
 
 /// Returns the refusal in a reply, if any.
@@ -114,9 +108,9 @@ fn refusal_in(reply: &Reply) -> Option<Refusal> {
 #[test]
 fn what_the_index_refuses_is_refused(rt: HostRuntime) -> Result<(), Fail> {
     let mut engine: engine::Engine<Mute> = engine::Engine::new(memory(rt.alloc(), u64::MAX)?);
-    for (text, refusal) in QUESTIONS {
+    for (text, refusal) in &QUESTIONS {
         let reply = engine.step(text.as_bytes());
-        assert!(rt; refusal_in(&reply) == refusal);
+        assert!(rt; refusal_in(&reply) == *refusal);
     }
     Ok(())
 }
