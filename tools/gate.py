@@ -3,8 +3,10 @@
 
 Usage: tools/gate.py        (a part of make test)
 
-What rt ci prints is passed on as it comes. Every SECONDS its checks are looked up in /proc, so of each the seconds after the last look are missed,
-some two of a hundred. A check belongs to the crate that it names; it is a test where it reads tests, and an edit where it runs in a copy of the crate.
+What rt ci prints is passed on as it comes. Without RT_JOBS in the environment it gets as many lanes as there are processors, or as fit into the memory
+that is free: a check that is given more processors than one ends sooner, but takes a fifth more of their time. Every SECONDS its checks are looked up
+in /proc, so of each the seconds after the last look are missed, some two of a hundred. A check belongs to the crate that it names; it is a test where
+it reads tests, and an edit where it runs in a copy of the crate.
 Shared processors are slower, so a fixed loop is timed too: 'by pace' is the sum as it would be on a machine where the loop takes PACE seconds. The
 status is that of rt ci.
 """
@@ -18,6 +20,8 @@ import time
 from pathlib import Path
 
 SECONDS, PACE, LEAST = 2, 0.15, 30
+# The most memory that a check takes, in bytes.
+MEMORY = 3 << 30
 TICKS = os.sysconf("SC_CLK_TCK")
 # The table has a line for each that took LEAST seconds or more.
 NAMED = re.compile(rb"--crate-name\0(\w+)\0")
@@ -29,6 +33,13 @@ def loop() -> float:
     for it in range(2_000_000):
         total += it * it
     return time.thread_time() - began
+
+
+def lanes() -> int:
+    """How many checks run side by side."""
+    free = re.search(r"MemAvailable: +(\d+) kB", Path("/proc/meminfo").read_text())
+    fit = int(free[1]) * 1024 // MEMORY if free else 1
+    return max(1, min(len(os.sched_getaffinity(0)), fit))
 
 
 def checks() -> "list[tuple[str, tuple[str, str], float]]":
@@ -84,7 +95,8 @@ def main() -> int:
     meter.start()
     # The last line is held back, so that it stays the last.
     last = ""
-    with subprocess.Popen(["rt", "ci"], stdout=subprocess.PIPE, text=True, errors="replace") as ran:
+    how = {"env": {"RT_JOBS": str(lanes()), **os.environ}, "stdout": subprocess.PIPE, "text": True, "errors": "replace"}
+    with subprocess.Popen(["rt", "ci"], **how) as ran:
         for line in ran.stdout:
             print(last, end="", flush=True)
             last = line
