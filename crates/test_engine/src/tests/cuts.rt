@@ -1,26 +1,29 @@
 //! Scripts that are cut at each byte: complete statements are answered, and then the unfinished text.
 use crate::tests::Engine;
-use crate::tests::devices::run_script;
-use crate::tests::scripts::{SCRIPTS, Script, bytes_from, cut_at};
+use crate::tests::devices::{Outcome, run_script};
+use crate::tests::scripts::{SCRIPTS, Script, bytes_from, cut_with_rest};
 use std::test::Fail;
 use test_devices::{SOUND, Setting};
 use tql_engine::runner::run_bytes;
 use tql_memory::memory;
+use tql_run::runner::{Fault, Summary};
 
 /// Reads of seven bytes.
 const BY_SEVEN: Setting = Setting { size: 7, ..SOUND };
 
+/// Whether a run ended, with this output.
+fn is_right(end: Result<Summary, Fault>, found: &Outcome, output: &[u8], text: &[u8]) -> bool {
+    end.is_ok() && end == found.end && output == text && found.text.as_slice() == text
+}
+
 /// Whether the first bytes of a script have the expected replies, in memory and in pieces.
 fn is_answered(rt: &impl AllocGlobal, script: Script, front: &[u8]) -> Result<bool, Fail> {
-    let mut cut = cut_at(rt.alloc(), script, front.len())?;
-    let rest = cut.rest;
-    cut.text.extend_from_slice(rest.as_bytes())?;
-    let mut engine = Engine::new(memory(rt.alloc(), u64::MAX)?);
-    let mut output = Vec::new(memory(rt.alloc(), u64::MAX)?);
-    let end = run_bytes(&mut engine, front, &mut output);
+    let all = memory(rt.alloc(), u64::MAX)?;
+    let cut = cut_with_rest(rt.alloc(), script, front.len())?;
     let found = run_script(rt, front, BY_SEVEN)?;
-    let have_ended = end.is_ok() && end == found.end;
-    Ok(have_ended && output.as_slice() == cut.text.as_slice() && found.text == cut.text)
+    let mut output = Vec::new(all);
+    let end = run_bytes(&mut Engine::new(all), front, &mut output);
+    Ok(is_right(end, &found, &output, &cut.text))
 }
 
 /// Whether a script, cut at each of its bytes, has the expected replies.
@@ -37,8 +40,8 @@ fn is_answered_anywhere(rt: &impl AllocGlobal, script: Script) -> Result<bool, F
 
 #[test]
 fn a_script_is_cut_at_any_byte(rt: HostRuntime) -> Result<(), Fail> {
-    for (number, script) in SCRIPTS.iter().enumerate() {
-        assert!(rt; is_answered_anywhere(&rt, *script)?, "script {number}");
+    for (number, &script) in SCRIPTS.iter().enumerate() {
+        assert!(rt; is_answered_anywhere(&rt, script)?, "script {number}");
     }
     Ok(())
 }

@@ -2,7 +2,10 @@
 //! the fault is the right one, and a second run continues after the statements that ran.
 use crate::tests::Engine;
 use crate::tests::devices::{Outcome, run_on};
-use crate::tests::scripts::{Cut, SCRIPTS, Script, bytes_from, cut_at, replies_in, text_from};
+use crate::tests::scripts::{
+    Cut, SCRIPTS, Script, bytes_from, cut_at, cut_with_rest, replies_in, text_from,
+};
+use std::alloc::{AllocError, Global};
 use std::test::Fail;
 use test_devices::{SOUND, Setting};
 use tql_memory::memory;
@@ -12,7 +15,7 @@ use tql_run::runner::{Fault, Summary};
 const MOST_CALLS: u64 = 5000;
 
 /// The failure after a number of calls: reads fail or report the end of the input, or writes or flushes fail.
-#[derive(Clone, Copy, PartialEq, Eq, Debug)]
+#[derive(Clone, Copy, PartialEq, Eq)]
 enum Failing {
     Nothing,
     Reads,
@@ -99,7 +102,7 @@ fn source_fails(setting: Setting, length: usize) -> bool {
 }
 
 /// The result of a run of a script.
-#[derive(Clone, Copy, PartialEq, Eq, Debug)]
+#[derive(Clone, Copy)]
 struct Trial {
     /// Whether all of it is as expected.
     is_right: bool,
@@ -162,28 +165,50 @@ fn goes_on(
     ran: usize,
 ) -> Result<bool, Fail> {
     let rest = bytes_from(rt.alloc(), script, ran)?;
+    let text = text_from(rt.alloc(), script, ran)?;
     let found = run_on(rt, engine, &rest, SOUND);
-    Ok(found.end.is_ok() && found.text == text_from(rt.alloc(), script, ran)?)
+    Ok(found.end.is_ok() && found.text == text)
 }
 
-/// Runs a script, and then the statements that did not run.
+/// Runs the bytes of a script on an engine, and then the statements that did not run. A read fails or not.
+fn tried_on(
+    rt: &impl AllocGlobal,
+    engine: &mut Engine,
+    script: Script,
+    setting: Setting,
+    bytes: &[u8],
+    cut: &Cut,
+    fails: bool,
+) -> Result<Trial, Fail> {
+    let found = run_on(rt, engine, bytes, setting);
+    let goes_on = goes_on(rt, engine, script, ran(script, &found, cut))?;
+    Ok(Trial {
+        is_right: ends_well(&found, cut, fails) && goes_on,
+        source_failed: found.source_faults > 0,
+        sink_failed: found.sink_faults > 0,
+    })
+}
+
+/// Returns the expected replies to the bytes of a script that come. The last text has a reply unless a read fails.
+fn expected(alloc: Global, script: Script, came: usize, fails: bool) -> Result<Cut, AllocError> {
+    if fails {
+        cut_at(alloc, script, came)
+    } else {
+        cut_with_rest(alloc, script, came)
+    }
+}
+
+/// Runs a script on a new engine, and then the statements that did not run.
 fn tried(rt: &impl AllocGlobal, script: Script, setting: Setting) -> Result<Trial, Fail> {
+    let memory = memory(rt.alloc(), setting.granted)?;
     let bytes = bytes_from(rt.alloc(), script, 0)?;
     let came = coming(setting, setting.reads.min(setting.giving), bytes.len());
     let fails = source_fails(setting, bytes.len());
-    let mut cut = cut_at(rt.alloc(), script, came)?;
-    if !fails {
-        let rest = cut.rest;
-        cut.text.extend_from_slice(rest.as_bytes())?;
-    }
-    let mut engine = Engine::new(memory(rt.alloc(), setting.granted)?);
-    let found = run_on(rt, &mut engine, &bytes, setting);
-    let run = ran(script, &found, &cut);
-    Ok(Trial {
-        is_right: ends_well(&found, &cut, fails) && goes_on(rt, &mut engine, script, run)?,
-        source_failed: found.source_faults > 0 || came < bytes.len(),
-        sink_failed: found.sink_faults > 0,
-    })
+    let cut = expected(rt.alloc(), script, came, fails)?;
+    let mut engine = Engine::new(memory);
+    let mut trial = tried_on(rt, &mut engine, script, setting, &bytes, &cut, fails)?;
+    trial.source_failed = trial.source_failed || came < bytes.len();
+    Ok(trial)
 }
 
 /// Runs a script with its sink failing at its first call, then at its second, and so on, until it does not meet the
@@ -226,8 +251,8 @@ fn at_each_call(
 
 /// Runs a script on all devices. Returns the number of the first devices on which a run is wrong, if any.
 fn by_all_devices(rt: &impl AllocGlobal, script: Script) -> Result<Option<usize>, Fail> {
-    for (number, (setting, source, sink)) in DEVICES.iter().enumerate() {
-        if !at_each_call(rt, script, *setting, *source, *sink)? {
+    for (number, &(setting, source, sink)) in DEVICES.iter().enumerate() {
+        if !at_each_call(rt, script, setting, source, sink)? {
             return Ok(Some(number));
         }
     }
@@ -236,8 +261,8 @@ fn by_all_devices(rt: &impl AllocGlobal, script: Script) -> Result<Option<usize>
 
 #[test]
 fn a_device_fails_at_any_call(rt: HostRuntime) -> Result<(), Fail> {
-    for (number, script) in SCRIPTS.iter().enumerate() {
-        let wrong = by_all_devices(&rt, *script)?;
+    for (number, &script) in SCRIPTS.iter().enumerate() {
+        let wrong = by_all_devices(&rt, script)?;
         assert!(rt; wrong.is_none(), "script {number}: devices {wrong:?}");
     }
     Ok(())

@@ -89,10 +89,10 @@ fn counts_of(rt: &impl Abort, memory: Memory, tables: &Catalog, text: &str) -> R
 #[test]
 fn finds_rows_by_what_a_question_says(rt: HostRuntime) -> Result<(), Fail> {
     let memory = memory(rt.alloc(), u64::MAX)?;
-    for (table, question, found) in &QUESTIONS {
+    for &(table, question, found) in &QUESTIONS {
         let tables = catalog_of(&rt, memory, table)?;
         let counts = counts_of(&rt, memory, &tables, question)?;
-        assert!(rt; (counts.maps, counts.keys, counts.intervals) == *found);
+        assert!(rt; (counts.maps, counts.keys, counts.intervals) == found);
     }
     Ok(())
 }

@@ -213,6 +213,14 @@ pub fn cut_at(alloc: Global, script: Script, length: usize) -> Result<Cut, Alloc
     Ok(cut)
 }
 
+/// Returns the same, with the reply to the rest if the input ends there.
+pub fn cut_with_rest(alloc: Global, script: Script, length: usize) -> Result<Cut, AllocError> {
+    let mut cut = cut_at(alloc, script, length)?;
+    let rest = cut.rest;
+    cut.text.extend_from_slice(rest.as_bytes())?;
+    Ok(cut)
+}
+
 /// Returns the number of replies that are complete in the first `length` bytes of the replies to a script.
 pub fn replies_in(script: Script, length: usize) -> usize {
     let mut left = length;

@@ -1,18 +1,18 @@
 //! Statements given to `step`: COMMIT and ROLLBACK after memory has run out, queries over an index whose lookups all
 //! fail, and one with its semicolon.
 use crate::tests::Engine;
-use std::process::Abort;
+use std::alloc::{AllocError, Global};
 use std::test::Fail;
 use test_devices::mute::Mute;
 use tql_engine::engine;
-use tql_memory::{Memory, memory};
+use tql_memory::memory;
 use tql_result::reply::{Reply, Verb};
 use tql_value::refusal::Refusal;
 
 /// More allocations than the statements of these tests make.
 const MOST_GROWTHS: u64 = 4000;
 
-/// Statements that open a transaction and change rows in it.
+/// Statements that begin a transaction and change rows in it.
 static CHANGES: [&str; 6] = [
     "CREATE TABLE log (x VARCHAR(4), s TIMESTAMP GENERATED ALWAYS AS ROW START, \
      e TIMESTAMP GENERATED ALWAYS AS ROW END, PERIOD FOR SYSTEM_TIME (s, e)) WITH SYSTEM VERSIONING",
@@ -23,43 +23,45 @@ static CHANGES: [&str; 6] = [
     "UPDATE log SET x = 'six' WHERE x = 'two'",
 ];
 
-/// Returns an engine in a transaction that has changed rows. None if the memory is not enough.
-fn changed_engine(memory: Memory) -> Option<Engine> {
-    let mut engine = Engine::new(memory);
+/// Whether an engine executes all the changes.
+fn is_changed(engine: &mut Engine) -> bool {
+    let mut are_done = true;
     for text in &CHANGES {
-        if !matches!(&engine.step(text.as_bytes()), Reply::Done(_, _)) {
-            return None;
-        }
+        let reply = engine.step(text.as_bytes());
+        are_done = are_done && matches!(&reply, Reply::Done(_, _));
     }
-    Some(engine)
+    are_done
 }
 
-/// Returns an engine in a transaction whose memory has just run out.
-fn spent_engine(rt: &(impl Abort + AllocGlobal)) -> Result<Engine, Fail> {
+/// Whether an engine makes the changes with this number of allocations, no more is left then, and it ends the
+/// transaction by a statement. None if the changes need more memory.
+fn ends(alloc: Global, granted: u64, text: &str, verb: Verb) -> Result<Option<bool>, AllocError> {
+    let memory = memory(alloc, granted)?;
+    let mut engine = Engine::new(memory);
+    if !is_changed(&mut engine) {
+        return Ok(None);
+    }
+    let is_spent = memory.left() == 0;
+    let reply = engine.step(text.as_bytes());
+    let is_ended = matches!(&reply, Reply::Done(found, None) if *found == verb);
+    Ok(Some(is_spent && is_ended))
+}
+
+/// Whether a transaction whose changes have used up the memory is ended by a statement.
+fn ends_when_spent(alloc: Global, text: &str, verb: Verb) -> Result<bool, AllocError> {
     for granted in 0..MOST_GROWTHS {
-        let memory = memory(rt.alloc(), granted)?;
-        if let Some(engine) = changed_engine(memory) {
-            let mut bytes = Vec::new(memory);
-            assert!(rt; bytes.push(0u8).is_err());
-            return Ok(engine);
+        if let Some(is_right) = ends(alloc, granted, text, verb)? {
+            return Ok(is_right);
         }
     }
-    panic!(rt; "no transaction")
+    Ok(false)
 }
-
-/// The statements that end a transaction, and what each replies.
-static ENDS: [(&str, Verb); 2] = [
-    ("COMMIT", Verb::Committed),
-    ("ROLLBACK WORK", Verb::RolledBack),
-];
 
 #[test]
 fn ends_a_transaction_without_memory(rt: HostRuntime) -> Result<(), Fail> {
-    for (text, verb) in &ENDS {
-        let mut engine = spent_engine(&rt)?;
-        let reply = engine.step(text.as_bytes());
-        assert!(rt; matches!(&reply, Reply::Done(found, None) if found == verb));
-    }
+    let commits = ends_when_spent(rt.alloc(), "COMMIT", Verb::Committed)?;
+    let rolls_back = ends_when_spent(rt.alloc(), "ROLLBACK WORK", Verb::RolledBack)?;
+    assert!(rt; commits && rolls_back);
     Ok(())
 }
 
@@ -108,9 +110,11 @@ fn refusal_in(reply: &Reply) -> Option<Refusal> {
 #[test]
 fn what_the_index_refuses_is_refused(rt: HostRuntime) -> Result<(), Fail> {
     let mut engine: engine::Engine<Mute> = engine::Engine::new(memory(rt.alloc(), u64::MAX)?);
-    for (text, refusal) in &QUESTIONS {
+    let mut are_right = true;
+    for &(text, refusal) in &QUESTIONS {
         let reply = engine.step(text.as_bytes());
-        assert!(rt; refusal_in(&reply) == *refusal);
+        are_right = are_right && refusal_in(&reply) == refusal;
     }
+    assert!(rt; are_right);
     Ok(())
 }
