@@ -1,18 +1,18 @@
 //! A case: a script `NAME.sql` and its expected outputs. `NAME.out` has the output of a run, `NAME.check.out` that of a
 //! check, `NAME.marks` that of a check with neighbours, and `NAME.err` the diagnostics of its refused statements.
-use crate::compare::text_difference;
-use crate::complaints::{complaints_fault, telling_fault};
-use crate::growths::{growth_fault, turn_fault};
+use crate::compare::is_expected;
+use crate::complaints::{are_answered_alike, are_told};
+use crate::growths::{is_right_by_growths, is_right_in_turn};
 use crate::neighbours::marks;
 use crate::runs::{Answering, Granted, Outcome, answer, run_over_lists};
 use crate::short::written_out;
-use crate::steps::bound_fault;
+use crate::steps::is_bounded;
 use std::alloc::{AllocError, Global};
 use std::fs;
 use std::io::{self, ErrorKind};
 
 /// The directives in the first line of a script, after `-- cases:`.
-#[derive(Clone, Copy, PartialEq, Eq, Debug)]
+#[derive(Clone, Copy)]
 struct Directives {
     /// The script is given only as a whole, and not also in pieces of 1, 2, 3 and 7 bytes.
     is_whole: bool,
@@ -72,93 +72,133 @@ fn bytes_of(rt: &HostRuntime, base: &str, ending: &str) -> io::Result<Option<Vec
     }
 }
 
-/// Reports a run that did not end well, or whose output is not the expected one.
-fn outcome_fault(alloc: Global, outcome: &Outcome, listed: &[u8]) -> io::Result<Option<String>> {
-    if outcome.ended_well() {
-        Ok(text_difference(alloc, listed, &outcome.text)?)
-    } else {
-        Ok(Some(String::from_str(alloc, "does not end well")?))
+/// Whether a run ended well and its output is the expected one. If not, writes the fault.
+fn is_well(outcome: &Outcome, listed: &[u8], fault: &mut String) -> io::Result<bool> {
+    if !outcome.ended_well() {
+        fault.push_str("does not end well")?;
+        return Ok(false);
     }
+    Ok(is_expected(fault, listed, &outcome.text)?)
 }
 
-/// Reports where the output of a script, given in pieces of `size` bytes, is not the expected one.
-fn text_fault(
+/// Whether the output of a script, given in pieces of `size` bytes, is the expected one. If not, writes the fault.
+fn is_answered(
     alloc: Global,
     answering: Answering,
     script: &[u8],
     size: usize,
     listed: &[u8],
-) -> io::Result<Option<String>> {
+    fault: &mut String,
+) -> io::Result<bool> {
     let outcome = answer(alloc, answering, script, size, Granted::All)?;
-    outcome_fault(alloc, &outcome, listed)
+    is_well(&outcome, listed, fault)
 }
 
-/// Does `text_fault` for a script that is run whole by an engine that keeps its periods in lists.
-fn lists_fault(alloc: Global, script: &[u8], listed: &[u8]) -> io::Result<Option<String>> {
+/// Does the same for a script that is run whole by an engine that keeps its periods in lists.
+fn is_answered_over_lists(
+    alloc: Global,
+    script: &[u8],
+    listed: &[u8],
+    fault: &mut String,
+) -> io::Result<bool> {
     let outcome = run_over_lists(alloc, script)?;
-    match outcome_fault(alloc, &outcome, listed)? {
-        Some(fault) => Ok(Some(format!(in alloc; "over lists of periods {fault}")?)),
-        None => Ok(None),
+    let is_right = is_well(&outcome, listed, fault)?;
+    if !is_right {
+        fault.push_str(", over lists of periods")?;
     }
+    Ok(is_right)
 }
 
-/// Does `text_fault` for pieces of each size.
-fn pieces_fault(
+/// Does the same for pieces of each size.
+fn is_answered_in_pieces(
     alloc: Global,
     answering: Answering,
     script: &[u8],
     listed: &[u8],
-) -> io::Result<Option<String>> {
+    fault: &mut String,
+) -> io::Result<bool> {
     for size in [1, 2, 3, 7] {
-        if let Some(fault) = text_fault(alloc, answering, script, size, listed)? {
-            return Ok(Some(format!(in alloc; "in pieces of {size} bytes {fault}")?));
+        if !is_answered(alloc, answering, script, size, listed, fault)? {
+            write!(fault, ", in pieces of {size} bytes")?;
+            return Ok(false);
         }
     }
-    Ok(None)
+    Ok(true)
 }
 
-/// Reports where the output of a script differs from the expected one, as a whole and in the ways of its directives.
-fn listed_fault(
+/// Whether the output of a run of a script is the expected one in the ways of its directives that only a run has. If
+/// not, writes the fault.
+fn is_run_right(
     alloc: Global,
-    answering: Answering,
-    script: &[u8],
-    directives: Directives,
+    script: &Script,
     listed: &[u8],
     refused: &mut u64,
-) -> io::Result<Option<String>> {
-    let mut fault = text_fault(alloc, answering, script, usize::MAX, listed)?;
-    if fault.is_none() && !directives.is_whole {
-        fault = pieces_fault(alloc, answering, script, listed)?;
+    fault: &mut String,
+) -> io::Result<bool> {
+    let directives = script.directives;
+    let bytes = &script.bytes;
+    if !directives.is_short && !is_answered_over_lists(alloc, bytes, listed, fault)? {
+        return Ok(false);
     }
-    if fault.is_none() && answering == Answering::Run && !directives.is_short {
-        fault = lists_fault(alloc, script, listed)?;
+    if directives.in_turn && !is_right_in_turn(alloc, bytes, listed, refused, fault)? {
+        return Ok(false);
     }
-    if fault.is_none() && directives.by_growths {
-        fault = growth_fault(alloc, answering, script, listed, refused)?;
+    match directives.most_growths {
+        Some(most) => is_bounded(alloc, bytes, listed, most, fault),
+        None => Ok(true),
     }
-    if fault.is_none() && directives.in_turn && answering == Answering::Run {
-        fault = turn_fault(alloc, script, listed, refused)?;
-    }
-    if fault.is_none()
-        && answering == Answering::Run
-        && let Some(most) = directives.most_growths
-    {
-        fault = bound_fault(alloc, script, listed, most)?;
-    }
-    Ok(fault)
 }
 
-/// Reports where the diagnostics of a script are not the expected ones, or where writing them changes its replies.
-fn told_fault(alloc: Global, script: &Script, listed: &[u8]) -> io::Result<Option<String>> {
-    let mut fault = complaints_fault(alloc, &script.bytes, listed)?;
-    if fault.is_none() && script.directives.by_growths {
-        fault = telling_fault(alloc, &script.bytes)?;
-    }
-    Ok(fault)
+/// Whether the output of a script is the expected one, as a whole and in the ways of its directives. If not, writes the
+/// fault.
+fn is_text_right(
+    alloc: Global,
+    answering: Answering,
+    script: &Script,
+    listed: &[u8],
+    refused: &mut u64,
+    fault: &mut String,
+) -> io::Result<bool> {
+    let directives = script.directives;
+    let bytes = &script.bytes;
+    Ok(
+        is_answered(alloc, answering, bytes, usize::MAX, listed, fault)?
+            && (directives.is_whole
+                || is_answered_in_pieces(alloc, answering, bytes, listed, fault)?)
+            && (!directives.by_growths
+                || is_right_by_growths(alloc, answering, bytes, listed, refused, fault)?)
+            && (answering == Answering::Check
+                || is_run_right(alloc, script, listed, refused, fault)?),
+    )
+}
+
+/// Whether the diagnostics of a script are the expected ones, and writing them changes no reply. If not, writes the
+/// fault.
+fn are_complaints_right(
+    alloc: Global,
+    script: &Script,
+    listed: &[u8],
+    fault: &mut String,
+) -> io::Result<bool> {
+    Ok(
+        are_told(alloc, &script.bytes, listed, fault)?
+            && (!script.directives.by_growths || are_answered_alike(alloc, &script.bytes, fault)?),
+    )
+}
+
+/// Whether the marks of a script are the expected ones. If not, writes where they differ.
+fn are_marks_right(
+    alloc: Global,
+    script: &Script,
+    listed: &[u8],
+    fault: &mut String,
+) -> io::Result<bool> {
+    let marks = marks(alloc, str::from_utf8(&script.bytes).unwrap_or("?"))?;
+    Ok(is_expected(fault, listed, marks.as_bytes())?)
 }
 
 /// An output that is compared with an expected one.
-#[derive(Clone, Copy, PartialEq, Eq, Debug)]
+#[derive(Clone, Copy)]
 enum Listing {
     /// The output of a run or a check.
     Text(Answering),
@@ -169,7 +209,7 @@ enum Listing {
 }
 
 /// The outputs, and the endings of the names of their files.
-const LISTINGS: [(Listing, &str); 4] = [
+static LISTINGS: [(Listing, &str); 4] = [
     (Listing::Text(Answering::Run), ".out"),
     (Listing::Complaints, ".err"),
     (Listing::Text(Answering::Check), ".check.out"),
@@ -201,56 +241,72 @@ fn script_of(rt: &HostRuntime, base: &str) -> io::Result<Script> {
     Ok(Script { bytes, directives })
 }
 
-/// Reports where a script's output differs from the expected one.
-fn fault_in(
+/// Whether an output of a script is the expected one. If not, writes the fault.
+fn is_listed(
     alloc: Global,
     script: &Script,
     listing: Listing,
     listed: &[u8],
     refused: &mut u64,
-) -> io::Result<Option<String>> {
+    fault: &mut String,
+) -> io::Result<bool> {
     match listing {
-        Listing::Text(answering) => {
-            listed_fault(
-                alloc,
-                answering,
-                &script.bytes,
-                script.directives,
-                listed,
-                refused,
-            )
-        }
-        Listing::Complaints => told_fault(alloc, script, listed),
-        Listing::Marks => {
-            let marks = marks(alloc, str::from_utf8(&script.bytes).unwrap_or("?"))?;
-            Ok(text_difference(alloc, listed, marks.as_bytes())?)
-        }
+        Listing::Text(answering) => is_text_right(alloc, answering, script, listed, refused, fault),
+        Listing::Complaints => are_complaints_right(alloc, script, listed, fault),
+        Listing::Marks => are_marks_right(alloc, script, listed, fault),
     }
 }
 
-/// Reports where a case differs from its expected outputs; None if it does not. Counts the failed allocations.
-pub fn fault_of(
+/// Whether the output of a script with this ending is the expected one; None if none is expected. Writes the fault.
+fn is_met(
+    rt: &HostRuntime,
+    base: &str,
+    script: &Script,
+    (listing, ending): (Listing, &str),
+    refused: &mut u64,
+    fault: &mut String,
+) -> io::Result<Option<bool>> {
+    let Some(listed) = bytes_of(rt, base, ending)? else {
+        return Ok(None);
+    };
+    let listed = spelled(rt.alloc(), script.directives, listed)?;
+    Ok(Some(is_listed(rt.alloc(), script, listing, &listed, refused, fault)?))
+}
+
+/// Whether a script has all its expected outputs. If not, writes the fault. Counts the failed allocations.
+fn are_all_met(
+    rt: &HostRuntime,
+    base: &str,
+    script: &Script,
+    refused: &mut u64,
+    fault: &mut String,
+) -> io::Result<bool> {
+    let mut is_compared = false;
+    for &listing in &LISTINGS {
+        match is_met(rt, base, script, listing, refused, fault)? {
+            None => {}
+            Some(true) => is_compared = true,
+            Some(false) => {
+                write!(fault, " ({})", listing.1)?;
+                return Ok(false);
+            }
+        }
+    }
+    if !is_compared {
+        fault.push_str("has nothing to be compared with")?;
+    }
+    Ok(is_compared)
+}
+
+/// Whether a case has all its expected outputs. If not, writes the fault. Counts the failed allocations.
+pub fn is_right(
     rt: &HostRuntime,
     folder: &str,
     name: &str,
     refused: &mut u64,
-) -> io::Result<Option<String>> {
-    let alloc = rt.alloc();
-    let base = format!(in alloc; "{folder}/{name}")?;
+    fault: &mut String,
+) -> io::Result<bool> {
+    let base = format!(in rt.alloc(); "{folder}/{name}")?;
     let script = script_of(rt, base.as_str())?;
-    let mut is_compared = false;
-    for (listing, ending) in LISTINGS {
-        if let Some(listed) = bytes_of(rt, base.as_str(), ending)? {
-            is_compared = true;
-            let listed = spelled(alloc, script.directives, listed)?;
-            if let Some(fault) = fault_in(alloc, &script, listing, &listed, refused)? {
-                return Ok(Some(format!(in alloc; "{ending} {fault}")?));
-            }
-        }
-    }
-    if is_compared {
-        Ok(None)
-    } else {
-        Ok(Some(String::from_str(alloc, "has nothing to be compared with")?))
-    }
+    are_all_met(rt, base.as_str(), &script, refused, fault)
 }

@@ -1,11 +1,11 @@
 //! The first difference between an output and the expected one.
-use std::alloc::{AllocError, Global};
+use std::alloc::AllocError;
 
 /// The text shown in place of a line after the last one.
 const END: &str = "(the end)";
 
 /// A line at which two texts differ.
-#[derive(Clone, Copy, Debug)]
+#[derive(Clone, Copy)]
 struct Difference<'a> {
     line: u64,
     expected: &'a str,
@@ -34,22 +34,23 @@ fn first_difference<'a>(expected: &'a str, found: &'a str) -> Difference<'a> {
     }
 }
 
-/// Reports where an output first differs from the expected one; None if it does not.
-pub fn text_difference(
-    alloc: Global,
-    listed: &[u8],
-    found: &[u8],
-) -> Result<Option<String>, AllocError> {
+/// Whether an output is the expected one. If not, writes where it first differs.
+pub fn is_expected(fault: &mut String, listed: &[u8], found: &[u8]) -> Result<bool, AllocError> {
     if listed == found {
-        return Ok(None);
+        return Ok(true);
     }
     let (Ok(listed), Ok(found)) = (str::from_utf8(listed), str::from_utf8(found)) else {
-        return Ok(Some(String::from_str(alloc, "is not UTF-8")?));
+        fault.push_str("is not UTF-8")?;
+        return Ok(false);
     };
     let Difference {
         line,
         expected,
         found,
     } = first_difference(listed, found);
-    Ok(Some(format!(in alloc; "differs at line {line}: expected {expected}, got {found}")?))
+    write!(
+        fault,
+        "differs at line {line}: expected {expected}, got {found}"
+    )?;
+    Ok(false)
 }

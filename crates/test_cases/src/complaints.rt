@@ -1,7 +1,7 @@
 //! The diagnostics of the refused statements of a script, as the program writes them to the standard error.
 ghost use Rattle.std.specs.Prelude.{None};
 
-use crate::compare::text_difference;
+use crate::compare::is_expected;
 use crate::runs::{Answering, Engine, Granted, answer};
 use std::alloc::{AllocError, Global};
 use tql_detail::detail::Detail;
@@ -84,12 +84,13 @@ fn run_told(
     size: usize,
     granted: u64,
 ) -> Result<Telling, AllocError> {
+    let all = memory(alloc, u64::MAX)?;
+    let memory = memory(alloc, granted)?;
     let mut source = SliceSource::in_pieces(script, size);
-    let mut sink = VecSink::new(Vec::new(memory(alloc, u64::MAX)?));
+    let mut sink = VecSink::new(Vec::new(all));
     let mut lines = Lines {
         text: String::new(alloc),
     };
-    let memory = memory(alloc, granted)?;
     let mut engine = Engine::new(memory);
     let _ = run(&mut engine, &mut source, &mut sink, &mut lines);
     Ok(Telling {
@@ -99,19 +100,30 @@ fn run_told(
     })
 }
 
-/// Reports where the diagnostics of a script, whole or in pieces of a byte, are not the expected ones.
-pub fn complaints_fault(
+/// Whether the diagnostics of a script, in pieces of `size` bytes, are the expected ones. If not, writes where they
+/// differ.
+fn is_told(
+    alloc: Global,
+    script: &[u8],
+    size: usize,
+    listed: &[u8],
+    fault: &mut String,
+) -> Result<bool, AllocError> {
+    let told = run_told(alloc, script, size, u64::MAX)?;
+    is_expected(fault, listed, told.lines.as_bytes())
+}
+
+/// Does the same for the whole script, and for pieces of a byte.
+pub fn are_told(
     alloc: Global,
     script: &[u8],
     listed: &[u8],
-) -> Result<Option<String>, AllocError> {
-    for size in [usize::MAX, 1] {
-        let told = run_told(alloc, script, size, u64::MAX)?;
-        if let Some(fault) = text_difference(alloc, listed, told.lines.as_bytes())? {
-            return Ok(Some(fault));
-        }
-    }
-    Ok(None)
+    fault: &mut String,
+) -> Result<bool, AllocError> {
+    Ok(
+        is_told(alloc, script, usize::MAX, listed, fault)?
+            && is_told(alloc, script, 1, listed, fault)?,
+    )
 }
 
 /// Whether a script with `granted` allocations has the same replies with diagnostics as without, and leaves the same
@@ -128,16 +140,28 @@ fn is_answered_alike(alloc: Global, script: &[u8], granted: u64) -> Result<bool,
     Ok(told.left == silent.left && told.text.as_slice() == silent.text.as_slice())
 }
 
-/// Reports where diagnostics change the replies of a script, with each allocation made to fail, in order, including
-/// those for the diagnostics.
-pub fn telling_fault(alloc: Global, script: &[u8]) -> Result<Option<String>, AllocError> {
+/// Returns the number of allocations that a script makes with diagnostics.
+fn told_growths(alloc: Global, script: &[u8]) -> Result<u64, AllocError> {
     let told = run_told(alloc, script, PIECE, u64::MAX)?;
-    let most = u64::MAX - told.left;
+    Ok(u64::MAX - told.left)
+}
+
+/// Whether a script has the same replies with diagnostics as without, with each allocation made to fail, in order,
+/// including those for the diagnostics. If not, writes where they differ.
+pub fn are_answered_alike(
+    alloc: Global,
+    script: &[u8],
+    fault: &mut String,
+) -> Result<bool, AllocError> {
+    let most = told_growths(alloc, script)?;
     for granted in 0..most.saturating_add(MOST_TOLD).min(MOST_GROWTHS) {
         if !is_answered_alike(alloc, script, granted)? {
-            let fault = format!(in alloc; "is told otherwise where {granted} growths are granted")?;
-            return Ok(Some(fault));
+            write!(
+                fault,
+                "is told otherwise where {granted} growths are granted"
+            )?;
+            return Ok(false);
         }
     }
-    Ok(None)
+    Ok(true)
 }

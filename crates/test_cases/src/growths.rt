@@ -4,7 +4,7 @@
 //!
 //! A statement that runs out of memory has changed nothing. If it is tried again with memory, it and all later ones
 //! have the expected replies. Otherwise all later ones have the replies that they have without it.
-use crate::compare::text_difference;
+use crate::compare::is_expected;
 use crate::runs::{Answering, Granted, answer};
 use crate::steps::{Manner, NO_MEMORY, NOT_UTF8, Replies, TOO_LONG, UNFINISHED, step_all};
 use std::alloc::{AllocError, Global};
@@ -19,7 +19,7 @@ const ROLLED_BACK: &[u8] = b"ROLLBACK\n";
 const NOT_OPEN: &[u8] = b"REFUSED E40 not in this transaction state\n";
 
 /// The replies that depend on the bytes alone, which take no memory.
-const OF_BYTES: [&[u8]; 3] = [TOO_LONG, NOT_UTF8, UNFINISHED];
+static OF_BYTES: [&[u8]; 3] = [TOO_LONG, NOT_UTF8, UNFINISHED];
 
 /// More allocations than any script makes that is run for each allocation.
 const MOST_GROWTHS: u64 = 20_000;
@@ -257,66 +257,105 @@ fn is_retried_well(
     alloc: Global,
     answering: Answering,
     script: &[u8],
-    listed: &[u8],
+    listed: &Listed<'_>,
     granted: u64,
 ) -> io::Result<bool> {
     match answering {
         Answering::Run => {
             let replies = step_all(alloc, script, Manner::Retried, granted)?;
-            Ok(replies.text.as_slice() == listed)
+            Ok(replies.text.as_slice() == listed.text)
         }
         Answering::Check => Ok(true),
     }
 }
 
-/// Makes a script's first allocation fail, then its second, and so on, until the script makes fewer. Reports the one at
-/// which a reply is wrong, and counts the failed allocations.
-pub fn growth_fault(
+/// The result of the runs of a script in which one allocation fails.
+fn run_failing(
+    alloc: Global,
+    answering: Answering,
+    script: &[u8],
+    listed: &Listed<'_>,
+    granted: u64,
+    unseen: &mut Unseen,
+) -> io::Result<Sweep> {
+    let sweep = run_in(alloc, answering, script, listed, granted)?;
+    let alone = run_without(alloc, answering, script, listed, granted, unseen)?;
+    let is_well = alone != Sweep::Differs
+        && is_retried_well(alloc, answering, script, listed, granted)?;
+    Ok(if is_well { sweep } else { Sweep::Differs })
+}
+
+/// Makes a script's first allocation fail, then its second, and so on, until the script makes fewer. Counts the failed
+/// allocations. Returns how many were granted when a reply was wrong; None if all are right.
+fn first_differing_growth(
+    alloc: Global,
+    answering: Answering,
+    script: &[u8],
+    listed: &Listed<'_>,
+    unseen: &mut Unseen,
+    refused: &mut u64,
+) -> io::Result<Option<u64>> {
+    for granted in 0..MOST_GROWTHS {
+        match run_failing(alloc, answering, script, listed, granted, unseen)? {
+            Sweep::UsedUp => *refused = refused.saturating_add(1),
+            Sweep::Ended if granted > 1 => return Ok(None),
+            _ => return Ok(Some(granted)),
+        }
+    }
+    Ok(Some(MOST_GROWTHS))
+}
+
+/// Whether a script's replies are right with each of its allocations made to fail. If not, writes at which they are
+/// wrong. Counts the failed allocations.
+pub fn is_right_by_growths(
     alloc: Global,
     answering: Answering,
     script: &[u8],
     text: &[u8],
     refused: &mut u64,
-) -> io::Result<Option<String>> {
+    fault: &mut String,
+) -> io::Result<bool> {
     let ends = reply_ends(alloc, answering, script, text)?;
     let listed = Listed { text, ends };
     let mut unseen = Unseen {
         statement: usize::MAX,
         behind: Vec::new(alloc),
     };
-    for granted in 0..MOST_GROWTHS {
-        let sweep = run_in(alloc, answering, script, &listed, granted)?;
-        let alone = run_without(alloc, answering, script, &listed, granted, &mut unseen)?;
-        let is_well = alone != Sweep::Differs
-            && is_retried_well(alloc, answering, script, text, granted)?;
-        match sweep {
-            Sweep::UsedUp if is_well => *refused = refused.saturating_add(1),
-            Sweep::Ended if is_well && granted > 1 => return Ok(None),
-            _ => {
-                let fault = format!(in alloc; "differs where {granted} growths are granted")?;
-                return Ok(Some(fault));
-            }
-        }
+    let wrong = first_differing_growth(alloc, answering, script, &listed, &mut unseen, refused)?;
+    if let Some(granted) = wrong {
+        write!(fault, "differs where {granted} growths are granted")?;
     }
-    Ok(Some(String::from_str(alloc, "does not end its growths")?))
+    Ok(wrong.is_none())
+}
+
+/// Whether each statement of a script has the expected reply when it is tried in this manner. If not, writes where it
+/// differs. Counts the failed allocations.
+fn is_right_by_manner(
+    alloc: Global,
+    script: &[u8],
+    text: &[u8],
+    manner: Manner,
+    refused: &mut u64,
+    fault: &mut String,
+) -> io::Result<bool> {
+    let replies = step_all(alloc, script, manner, 0)?;
+    *refused = refused.saturating_add(replies.refused);
+    Ok(is_expected(fault, text, &replies.text)?)
 }
 
 /// Tries each statement of a script with no allocation granted, with one, and so on, until it has enough. Then does so
-/// with one failing allocation. Reports an unexpected reply, and counts the failed allocations.
-pub fn turn_fault(
+/// with one failing allocation. Returns whether all replies are right. If not, writes where one is wrong.
+pub fn is_right_in_turn(
     alloc: Global,
     script: &[u8],
     text: &[u8],
     refused: &mut u64,
-) -> io::Result<Option<String>> {
-    for manner in [Manner::InTurn, Manner::OneInTurn] {
-        let replies = step_all(alloc, script, manner, 0)?;
-        *refused = refused.saturating_add(replies.refused);
-        if let Some(fault) = text_difference(alloc, text, &replies.text)? {
-            return Ok(Some(format!(in alloc;
-                "with its growths refused in turn, {manner:?}, {fault}"
-            )?));
-        }
+    fault: &mut String,
+) -> io::Result<bool> {
+    let is_right = is_right_by_manner(alloc, script, text, Manner::InTurn, refused, fault)?
+        && is_right_by_manner(alloc, script, text, Manner::OneInTurn, refused, fault)?;
+    if !is_right {
+        fault.push_str(", with its growths refused in turn")?;
     }
-    Ok(None)
+    Ok(is_right)
 }

@@ -14,7 +14,7 @@ mod runs;
 mod short;
 mod steps;
 
-use crate::case::fault_of;
+use crate::case::is_right;
 use crate::folder::{case_names, names_in};
 use std::io;
 use std::process::ExitCode;
@@ -27,14 +27,44 @@ fn report(
     rt: &impl Print,
     folder: &str,
     case: &str,
-    fault: &io::Result<Option<String>>,
+    outcome: io::Result<bool>,
+    fault: &str,
 ) -> io::Result<bool> {
-    match fault {
-        Ok(None) => println!(rt; "{folder}/{case} ok")?,
-        Ok(Some(fault)) => println!(rt; "{folder}/{case} {fault}")?,
+    match &outcome {
+        Ok(true) => println!(rt; "{folder}/{case} ok")?,
+        Ok(false) => println!(rt; "{folder}/{case} {fault}")?,
         Err(error) => println!(rt; "{folder}/{case} cannot be run: {error}")?,
     }
-    Ok(matches!(fault, Ok(None)))
+    Ok(matches!(&outcome, Ok(true)))
+}
+
+/// Runs a case in the folder at a path, prints its result, and returns whether it passed. Counts the failed
+/// allocations.
+fn run_case(
+    rt: &HostRuntime,
+    folder: &str,
+    path: &str,
+    case: &str,
+    refused: &mut u64,
+) -> io::Result<bool> {
+    let mut fault = String::new(rt.alloc());
+    let outcome = is_right(rt, path, case, refused, &mut fault);
+    report(rt, folder, case, outcome, fault.as_str())
+}
+
+/// Runs the cases of these names, and returns whether all passed. Counts the failed allocations.
+fn run_cases(
+    rt: &HostRuntime,
+    folder: &str,
+    path: &str,
+    cases: &[&str],
+    refused: &mut u64,
+) -> io::Result<bool> {
+    let mut are_well = true;
+    for case in cases {
+        are_well &= run_case(rt, folder, path, case, refused)?;
+    }
+    Ok(are_well)
 }
 
 /// Runs the cases of a folder, in the order of their names, and returns whether all passed. Counts the failed
@@ -42,12 +72,8 @@ fn report(
 fn run_folder(rt: &HostRuntime, folder: &str, refused: &mut u64) -> io::Result<bool> {
     let path = format!(in rt.alloc(); "{CASES}/{folder}")?;
     let files = names_in(rt, path.as_str())?;
-    let mut are_well = true;
-    for case in case_names(rt.alloc(), &files)? {
-        let fault = fault_of(rt, path.as_str(), case, refused);
-        are_well &= report(rt, folder, case, &fault)?;
-    }
-    Ok(are_well)
+    let cases = case_names(rt.alloc(), &files)?;
+    run_cases(rt, folder, path.as_str(), &cases, refused)
 }
 
 /// Runs all cases, folder by folder, and returns whether all passed. The number of failed allocations is written to the

@@ -82,8 +82,9 @@ fn run_whole<I: IntervalIndex>(
     script: &[u8],
     granted: Granted,
 ) -> Result<Outcome, AllocError> {
-    let mut text = Vec::new(memory(alloc, u64::MAX)?);
+    let all = memory(alloc, u64::MAX)?;
     let memory = granted.memory(alloc)?;
+    let mut text = Vec::new(all);
     let mut engine: engine::Engine<I> = engine::Engine::new(memory);
     let end = run_bytes(&mut engine, script, &mut text);
     let left = memory.left();
@@ -97,9 +98,10 @@ fn run_pieces(
     size: usize,
     granted: Granted,
 ) -> Result<Outcome, AllocError> {
-    let mut source = SliceSource::in_pieces(script, size);
-    let mut sink = VecSink::new(Vec::new(memory(alloc, u64::MAX)?));
+    let all = memory(alloc, u64::MAX)?;
     let memory = granted.memory(alloc)?;
+    let mut source = SliceSource::in_pieces(script, size);
+    let mut sink = VecSink::new(Vec::new(all));
     let mut engine = Engine::new(memory);
     let end = run(&mut engine, &mut source, &mut sink, &mut Silence);
     Ok(Outcome {
@@ -121,9 +123,10 @@ pub fn check_only(
     size: usize,
     granted: Granted,
 ) -> Result<Outcome, AllocError> {
-    let mut source = SliceSource::in_pieces(script, size);
-    let mut sink = VecSink::new(Vec::new(memory(alloc, u64::MAX)?));
+    let all = memory(alloc, u64::MAX)?;
     let memory = granted.memory(alloc)?;
+    let mut source = SliceSource::in_pieces(script, size);
+    let mut sink = VecSink::new(Vec::new(all));
     let end = check_script(memory, &mut source, &mut sink, &mut Silence);
     Ok(Outcome {
         end,

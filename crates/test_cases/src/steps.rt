@@ -1,8 +1,8 @@
 //! The replies of an engine to the pieces of a script, each given by itself, while allocations fail and are granted
 //! again; and the number of allocations that the last piece makes.
-ghost use Rattle.std.specs.Prelude.{◌≡◌, [], OnOk};
+ghost use Rattle.std.specs.Prelude.{◌≡◌, [], OnOk, false};
 
-use crate::compare::text_difference;
+use crate::compare::is_expected;
 use crate::runs::Engine;
 use std::alloc::{AllocError, Global};
 use std::io;
@@ -179,52 +179,64 @@ fn step_fed(
     Ok(())
 }
 
+/// Answers the pieces of a script in this manner, and appends the replies.
+fn step_script(
+    alloc: Global,
+    memory: Memory,
+    engine: &mut Engine,
+    splitter: &mut Splitter,
+    script: &[u8],
+    manner: Manner,
+    replies: &mut Replies,
+) -> io::Result<()>
+    requires unended { splitter.old.ended ≡ false }
+    requires drained { splitter.old.ready ≡ [] }
+{
+    for part in script.chunks(LONGEST_PART) {
+        splitter.feed(part);
+        step_fed(alloc, memory, engine, splitter, manner, replies)?;
+    }
+    splitter.finish();
+    step_fed(alloc, memory, engine, splitter, manner, replies)
+}
+
 /// Returns the replies of a new engine to the pieces of a script, with `granted` allocations and in this manner.
 pub fn step_all(alloc: Global, script: &[u8], manner: Manner, granted: u64) -> io::Result<Replies> {
     let mut splitter = Splitter::new(memory(alloc, u64::MAX)?)?;
     let memory = memory(alloc, granted)?;
-    let mut engine = Engine::new(memory);
     let mut replies = Replies {
         text: Vec::new(alloc),
         ends: vec![in alloc; 0]?,
         last_growths: 0,
         refused: 0,
     };
-    for part in script.chunks(LONGEST_PART) {
-        splitter.feed(part);
-        step_fed(
-            alloc,
-            memory,
-            &mut engine,
-            &mut splitter,
-            manner,
-            &mut replies,
-        )?;
-    }
-    splitter.finish();
-    step_fed(
+    let mut engine = Engine::new(memory);
+    step_script(
         alloc,
         memory,
         &mut engine,
         &mut splitter,
+        script,
         manner,
         &mut replies,
     )?;
     Ok(replies)
 }
 
-/// Reports a script whose last statement makes more than `most` allocations, or whose replies are not the expected
-/// ones.
-pub fn bound_fault(
+/// Whether the last statement of a script makes at most `most` allocations, and the replies are the expected ones. If
+/// not, writes the fault.
+pub fn is_bounded(
     alloc: Global,
     script: &[u8],
     listed: &[u8],
     most: u64,
-) -> io::Result<Option<String>> {
+    fault: &mut String,
+) -> io::Result<bool> {
     let replies = step_all(alloc, script, Manner::Once, u64::MAX)?;
-    if replies.last_growths > most {
-        let count = replies.last_growths;
-        return Ok(Some(format!(in alloc; "makes {count} growths in its last statement")?));
+    let count = replies.last_growths;
+    if count > most {
+        write!(fault, "makes {count} growths in its last statement")?;
+        return Ok(false);
     }
-    Ok(text_difference(alloc, listed, &replies.text)?)
+    Ok(is_expected(fault, listed, &replies.text)?)
 }
