@@ -14,6 +14,6 @@ trap 'rm -rf "$room"' EXIT
 cp -a crates crates.txt HANDLES "$room"
 mkdir -p "$room/crates/index_times/src"
 cp benches/index_times.txt "$room/crates/index_times/src/main.rt"
-echo "index_times: tql_index tql_list_index tql_period tql_memory anyhow" >> "$room/crates.txt"
+echo "index_times: tql_index tql_tree_index tql_list_index tql_period tql_memory anyhow" >> "$room/crates.txt"
 cd "$room/crates/index_times"
 rt run -- "$@"

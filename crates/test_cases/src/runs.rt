@@ -4,13 +4,13 @@ use tql_check::check::check_script;
 use tql_engine::engine;
 use tql_engine::runner::{run, run_bytes};
 use tql_index::index::IntervalIndex;
-use tql_index::tree_index::TreeIndex;
 use tql_list_index::list_index::ListIndex;
 use tql_memory::{Memory, memory};
 use tql_result::vec_sink::VecSink;
 use tql_run::runner::{Fault, Summary};
 use tql_run::silence::Silence;
 use tql_run::slice_source::SliceSource;
+use tql_tree_index::tree_index::TreeIndex;
 
 /// The engine that the program uses.
 pub type Engine = engine::Engine<TreeIndex>;

@@ -6,11 +6,11 @@ use crate::compare::is_expected;
 use crate::runs::Engine;
 use std::alloc::{AllocError, Global};
 use std::io;
-use tql_lex::piece::Piece;
-use tql_lex::splitter::{LONGEST_PART, Splitter};
 use tql_memory::{Memory, memory};
 use tql_result::print::write_reply;
 use tql_result::std_sink::StdSink;
+use tql_splitter::piece::Piece;
+use tql_splitter::splitter::{LONGEST_PART, Splitter};
 
 /// The reply to a statement that runs out of memory.
 pub const NO_MEMORY: &[u8] = b"REFUSED E01 out of memory\n";

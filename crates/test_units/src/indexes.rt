@@ -5,10 +5,10 @@ use crate::stop::Stop;
 use std::alloc::AllocError;
 use tql_index::index::{Id, IntervalIndex};
 use tql_index::span::Span;
-use tql_index::tree_index::TreeIndex;
 use tql_list_index::list_index::ListIndex;
 use tql_memory::Memory;
 use tql_period::period::Period;
+use tql_tree_index::tree_index::TreeIndex;
 
 /// Parses an entry: a period and a number, with `#` between them.
 fn entry(text: &str) -> Result<(Period, Id), Stop> {

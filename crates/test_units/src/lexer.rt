@@ -5,11 +5,11 @@ use crate::line::Line;
 use crate::parts::{count, mark, sides, two};
 use crate::stop::Stop;
 use std::alloc::AllocError;
-use tql_lex::piece::Piece;
-use tql_lex::splitter::{LONGEST_PART, Splitter};
 use tql_lex::token::{Symbol, Token, TokenKind};
 use tql_lex::tokenizer::tokens;
 use tql_memory::Memory;
+use tql_splitter::piece::Piece;
+use tql_splitter::splitter::{LONGEST_PART, Splitter};
 
 static SYMBOLS: [Symbol; 13] = [
     Symbol::Open,

@@ -8,9 +8,9 @@ use Rattle.tql_spec.specs.Machine.{State, Reply}
 use Rattle.tql_spec.specs.Run.{Answers, Run}
 use Rattle.tql_spec.specs.Script.{Piece, statements}
 use Rattle.tql_points.proofs.PointRuns.{runs_agree}
-use Rattle.tql_lex.specs.Holding.{Holds}
-use Rattle.tql_lex.specs.Pieces.{MayFollow}
-use Rattle.tql_lex.specs.Stream.{Stream}
+use Rattle.tql_splitter.specs.Holding.{Holds}
+use Rattle.tql_splitter.specs.Pieces.{MayFollow}
+use Rattle.tql_splitter.specs.Stream.{Stream}
 use Rattle.tql_result.specs.Replies.{answer_of}
 use Rattle.tql_run.specs.Responding.{Answered}
 use Rattle.tql_engine_step.proofs.HoldPoints.{step_holds}

@@ -7,10 +7,10 @@ use Rattle.tql_spec.specs.Reached.{IsInOrder}
 use Rattle.tql_spec.specs.Run.{Run}
 use Rattle.tql_spec.specs.Script.{Piece, statements}
 use Rattle.tql_points.specs.PointRun.{AgreesAtPoints}
-use Rattle.tql_lex.specs.Feeding.{Feeds, Finishes}
-use Rattle.tql_lex.specs.Holding.{Holds}
-use Rattle.tql_lex.specs.Pieces.{MayFollow}
-use Rattle.tql_lex.specs.Stream.{Stream}
+use Rattle.tql_splitter.specs.Feeding.{Feeds, Finishes}
+use Rattle.tql_splitter.specs.Holding.{Holds}
+use Rattle.tql_splitter.specs.Pieces.{MayFollow}
+use Rattle.tql_splitter.specs.Stream.{Stream}
 use Rattle.tql_result.specs.Replies.{answer_of}
 use Rattle.tql_result.specs.declared.answer.Answer as code
 use Rattle.tql_run.specs.Writing.{AnswersNext}

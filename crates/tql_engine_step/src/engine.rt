@@ -55,8 +55,8 @@ impl<I: IntervalIndex> Drop for Engine<I> {
 }
 
 impl<I: IntervalIndex> Model for Engine<I> {
-    ghost use Rattle.tql_index.specs.contracts.tree_index.TreeIndex.{the_row as tree_row};
-    ghost use Rattle.tql_index.specs.contracts.tree_index.TreeIndexIntervalIndex.TheImpl.{ghosts};
+    ghost use Rattle.tql_tree_index.specs.contracts.tree_index.TreeIndex.{the_row as tree_row};
+    ghost use Rattle.tql_tree_index.specs.contracts.tree_index.TreeIndexIntervalIndex.TheImpl.{ghosts};
     ghost use Rattle.tql_store.specs.contracts.store.Store.{the_row};
     ghost use Rattle.std.specs.Prelude.{map};
     ghost use Rattle.tql_engine_state.specs.Readers.{reader_of};

@@ -20,14 +20,14 @@ use std::marker::Model;
 use std::mem;
 use tql_memory::Memory;
 
-// The number of entries of a run that is split before another is added. While it is split it has one more.
+/// The number of entries of a run that is split before another is added. While it is split it has one more.
 pub const FULL: usize = ROOM - 1;
 
-// The number of entries up to which a run that lost one is joined with another run.
+/// The number of entries up to which a run that lost one is joined with another run.
 pub const SPARSE: usize = 15;
 
-// The number of entries up to which two runs are joined. It is below that of a full run, so that additions and removals
-// of single entries do not split and join a run in turn.
+/// The number of entries up to which two runs are joined. It is below that of a full run, so that additions and
+/// removals of single entries do not split and join a run in turn.
 pub const JOINED: usize = 30;
 
 // Returns the greatest end of the entries, or the first place of the line if there are none.
@@ -41,7 +41,7 @@ fn last_end<A: Allocator>(slots: &Slots<A>) -> Place
     end
 }
 
-// What a search reads of a run without a look at its entries.
+/// What a search reads of a run without a look at its entries.
 #[derive(Clone, Copy)]
 pub struct Ends {
     // The greatest end of the entries.
@@ -93,7 +93,7 @@ impl<A: Allocator> Model for Run<A> {
 }
 
 impl<A: Allocator> Run<A> {
-    // Creates a run without entries, which takes no memory.
+    /// Creates a run without entries, which takes no memory.
     pub fn new(memory: A) -> Run<A>
         ensures { result ≡ [] }
     {
@@ -111,7 +111,7 @@ impl<A: Allocator> Run<A> {
         }
     }
 
-    // Returns the number of entries.
+    /// Returns the number of entries.
     pub fn len(&self) -> usize
         ensures count { result ≡ length self.now }
         ensures few { result ≤ 32 }
@@ -119,7 +119,7 @@ impl<A: Allocator> Run<A> {
         self.slots.len()
     }
 
-    // States what is known of each run. Does nothing.
+    /// States what is known of each run. Does nothing.
     pub fn know(&self)
         ensures in_order { IsInOrder self.now }
         ensures few { length self.now ≤ 32 }
@@ -127,14 +127,14 @@ impl<A: Allocator> Run<A> {
         let _slots = &self.slots;
     }
 
-    // Returns the greatest end of the entries, or the first place of the line if there are none.
+    /// Returns the greatest end of the entries, or the first place of the line if there are none.
     pub fn end(&self) -> Place
         ensures { place_of result ≡ greatest_end self.now }
     {
         self.ends.greatest
     }
 
-    // Returns on which side of the run an entry lies, or `Equal` if it lies within.
+    /// Returns on which side of the run an entry lies, or `Equal` if it lies within.
     pub fn side(&self, slot: Slot) -> Ordering
         requires { 0 < length self.now }
         ensures { IsSide result (entry_of slot) self.now }
@@ -148,7 +148,7 @@ impl<A: Allocator> Run<A> {
         }
     }
 
-    // Removes one entry that equals another one, if there is one. Returns whether there was.
+    /// Removes one entry that equals another one, if there is one. Returns whether there was.
     pub fn remove(&mut self, slot: Slot) -> bool
         ensures { Removes result (entry_of slot) self.old self.new }
     {
@@ -161,8 +161,8 @@ impl<A: Allocator> Run<A> {
         true
     }
 
-    // Moves the entries of the next run to the end of this one, if this one is empty or both have few entries together.
-    // Returns whether it did. Allocates nothing, since a run that is not empty has room for a full one.
+    /// Moves the entries of the next run to the end of this one, if this one is empty or both have few entries
+    /// together. Returns whether it did. Allocates nothing, since a run that is not empty has room for a full one.
     pub fn join(&mut self, next: &mut Run<A>) -> bool
         requires { IsInOrder (self.old ++ next.old) }
         ensures joined { OnTrue result (self.new ≡ self.old ++ next.old) }
@@ -181,8 +181,8 @@ impl<A: Allocator> Run<A> {
         true
     }
 
-    // Appends the numbers of the entries that share a point with the line from one place up to another. Returns false
-    // if some entry starts at the second place or after it.
+    /// Appends the numbers of the entries that share a point with the line from one place up to another. Returns false
+    /// if some entry starts at the second place or after it.
     pub fn find(
         &self,
         from: Place,
@@ -201,7 +201,7 @@ impl<A: Allocator> Run<A> {
 }
 
 impl<A: Allocator + Copy> Run<A> {
-    // Creates a run of one entry, with room for a full run.
+    /// Creates a run of one entry, with room for a full run.
     pub fn of(memory: A, slot: Slot) -> Result<Run<A>, AllocError>
         ensures { IfOk result (λ run. run ≡ entry_of slot ∷ []) }
     {
@@ -217,7 +217,7 @@ impl<A: Allocator + Copy> Run<A> {
         })
     }
 
-    // Adds an entry.
+    /// Adds an entry.
     pub fn put(&mut self, slot: Slot) -> Result<(), AllocError>
         requires { length self.old < 32 }
         ensures added { OnOk result (SameBag self.new (entry_of slot ∷ self.old)) }
@@ -230,7 +230,7 @@ impl<A: Allocator + Copy> Run<A> {
         Ok(())
     }
 
-    // Adds an entry, and moves the upper half of the entries to another run, which is empty.
+    /// Adds an entry, and moves the upper half of the entries to another run, which is empty.
     pub fn put_halved(&mut self, slot: Slot, upper: &mut Run<A>) -> Result<(), AllocError>
         requires some { 0 < length self.old }
         requires empty { upper.old ≡ [] }

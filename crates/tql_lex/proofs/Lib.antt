@@ -1,7 +1,3 @@
-pub mod CuttingLemmas
-pub mod LookLemmas
-pub mod HoldLemmas
-pub mod RunLemmas
 pub mod QuoteLemmas
 pub mod GapLemmas
 pub mod TokensLemmas

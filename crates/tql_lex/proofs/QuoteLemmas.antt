@@ -4,7 +4,10 @@ use Rattle.std.proofs.Common.{Some, None, refl, ap, ◌∙◌, arith, drop-cons,
 use Rattle.std.proofs.Common.{append_assoc}
 use Rattle.std.proofs.lemmas.Bool.{eq-eqb, eqb-true, ne_eqb}
 use Rattle.tql_spec.specs.FirstToken.{quote_end, one_more, content_from, without_quote}
-use Rattle.tql_lex.proofs.CuttingLemmas.{plus}
+
+abbrev pub plus : ℕ → Option ℕ → Option ℕ
+plus i None = None
+plus i (Some n) = Some (i + n)
 
 plus_more : (i : ℕ) (o : Option ℕ) → plus i (one_more o) ≡ plus (i + 1) o
 plus_more i None = refl

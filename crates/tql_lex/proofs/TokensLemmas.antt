@@ -1,7 +1,7 @@
 -- The tokens found so far, and the tokens of the rest.
 use Rattle.std.proofs.Common.{◌≡◌, ℕ, ◌+◌, ◌-◌, ◌<◌, ◌≤◌, ◌==◌, Bool, true, false, cond, List, [], ◌∷◌, ◌++◌, length}
 use Rattle.std.proofs.Common.{take, drop, None, refl, sym, ap, ◌∙◌, subst, arith, append-nil, append_assoc}
-use Rattle.std.proofs.Common.{length-append, length-drop}
+use Rattle.std.proofs.Common.{length-append, length-drop, drop-drop}
 use Rattle.std.specs.Prelude.{not, ◌||◌}
 use Rattle.std.proofs.lemmas.List.{drop_at, take_at}
 use Rattle.tql_spec.specs.Script.{is_blank, begins_comment, without_lead}
@@ -9,8 +9,17 @@ use Rattle.tql_spec.specs.Token.{Token, AreTokens}
 use Rattle.tql_spec.specs.FirstToken.{Sort, token_with, first_token}
 use Rattle.tql_spec.proofs.TokenLaws.{read, Reads, first_token_sound, first_token_complete, IsRead, token_stands}
 use Rattle.tql_spec.proofs.TokenLaws.{end_skipped, same_first, none_some}
-use Rattle.tql_lex.proofs.CuttingLemmas.{rest_left}
 use Rattle.tql_lex.proofs.GapLemmas.{gap_before, all_skipped}
+
+-- ---- what is left of a list
+
+pub rest_left : (bytes used rest : List ℕ) (start : ℕ) → start ≤ length bytes → drop start bytes ≡ used ++ rest
+    → drop (length bytes - length rest) bytes ≡ rest
+rest_left bytes used rest start le e =
+    let behind : length bytes - length rest ≡ start + length used =
+    omega (arith, length-drop start bytes, ap length e, length-append used rest) in
+    ap (λ (k : ℕ). drop k bytes) behind
+    ∙ sym (drop-drop (length used) start bytes) ∙ ap (drop (length used)) e ∙ drop_at used rest (length used) refl
 
 -- the tokens found are those before the rest
 pub record SoFar (text : List ℕ) (found : List Token) (rest : List ℕ) : Type 0 where

@@ -1,12 +1,3 @@
-pub mod Stream
-pub mod Cutting
-pub mod Plain
-pub mod Pending
-pub mod Ready
-pub mod Holding
-pub mod Pieces
-pub mod Feeding
-pub mod Lending
 pub mod Tokens
 pub mod Reading
 pub mod SoleWords

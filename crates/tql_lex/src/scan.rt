@@ -3,7 +3,7 @@ ghost use Rattle.std.specs.Prelude.{◌≡◌, false};
 ghost use Rattle.tql_spec.specs.Script as script;
 
 /// Whether a byte is a space, a tab, a line feed or a carriage return.
-pub(crate) fn is_blank(byte: u8) -> bool
+pub fn is_blank(byte: u8) -> bool
     ensures { result ≡ script.is_blank byte }
 {
     matches!(byte, b' ' | b'\t' | b'\n' | b'\r')

@@ -8,8 +8,8 @@ use Rattle.tql_spec.specs.Machine.{State}
 use Rattle.tql_spec.specs.Answer.{Answer}
 use Rattle.tql_spec.specs.Script.{Piece, statements}
 use Rattle.tql_spec.specs.Run.{Answering, RunBy}
-use Rattle.tql_lex.specs.Stream.{Stream, is_begun, kept_now, one_if, to_do}
-use Rattle.tql_lex.specs.Holding.{Holds}
+use Rattle.tql_splitter.specs.Stream.{Stream, is_begun, kept_now, one_if, to_do}
+use Rattle.tql_splitter.specs.Holding.{Holds}
 use Rattle.tql_run.specs.Hearing.{HearingChange}
 use Rattle.tql_run.specs.Responding.{Standing}
 use Rattle.tql_run.specs.Reads.{ReadsSoFar, Pulls}

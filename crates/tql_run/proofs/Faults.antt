@@ -6,7 +6,7 @@ use Rattle.tql_spec.specs.Machine.{State, Refused}
 use Rattle.tql_spec.specs.Answer.{Answer, Replied}
 use Rattle.tql_spec.specs.Script.{Piece}
 use Rattle.tql_spec.specs.Run.{Answering, Replies, Checks, Faulty, HasSense, IsWhole, finished}
-use Rattle.tql_lex.specs.Pending.{room}
+use Rattle.tql_splitter.specs.Pending.{room}
 use Rattle.tql_value.specs.Refusals.{refusal_of}
 use Rattle.tql_value.specs.declared.refusal.Refusal.TheVariants.{StatementTooLong, OutOfMemory}
 use Rattle.tql_run.specs.Ending.{EndsTransaction, Responds}

@@ -11,8 +11,8 @@ use Rattle.tql_spec.specs.Answer.{Answer}
 use Rattle.tql_spec.specs.Script.{Piece, statements}
 use Rattle.tql_spec.specs.Run.{Answering, RunBy}
 use Rattle.tql_spec.specs.Lines.{Placed, placed_from, placed_statements, line_feeds, line_of}
-use Rattle.tql_lex.specs.Stream.{capped}
-use Rattle.tql_lex.specs.Pieces.{MayFollow, HasNone}
+use Rattle.tql_splitter.specs.Stream.{capped}
+use Rattle.tql_splitter.specs.Pieces.{MayFollow, HasNone}
 use Rattle.tql_result.specs.Devices.{Appends}
 use Rattle.tql_run.specs.Hearing.{Heard, Hears, note_of, notes_from, notes_of}
 use Rattle.tql_run.specs.Runs.{answered, is_refused, most_bytes}

@@ -10,10 +10,10 @@ use Rattle.tql_spec.specs.Script.{Piece, statements}
 use Rattle.tql_spec.specs.Machine as machine
 use Rattle.tql_spec.specs.Run.{Answering, RunBy}
 use Rattle.tql_spec.specs.Lines.{Placed, placed_from, placed_statements, line_of}
-use Rattle.tql_lex.specs.Stream.{Stream}
-use Rattle.tql_lex.specs.Holding.{Holds}
-use Rattle.tql_lex.specs.Pieces.{MayFollow, HasNone}
-use Rattle.tql_lex.specs.Feeding.{Feeds, Finishes}
+use Rattle.tql_splitter.specs.Stream.{Stream}
+use Rattle.tql_splitter.specs.Holding.{Holds}
+use Rattle.tql_splitter.specs.Pieces.{MayFollow, HasNone}
+use Rattle.tql_splitter.specs.Feeding.{Feeds, Finishes}
 use Rattle.tql_result.specs.Devices.{Appends, AppendsBeginning, HasFailed}
 use Rattle.tql_result.specs.Replies.{answer_of}
 use Rattle.tql_result.specs.declared.answer.Answer as code

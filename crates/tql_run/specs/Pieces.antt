@@ -5,7 +5,7 @@ use Rattle.tql_spec.specs.Machine.{State, Refused}
 use Rattle.tql_spec.specs.Answer.{Replied}
 use Rattle.tql_spec.specs.Script.{Piece}
 use Rattle.tql_spec.specs.Run.{Answering}
-use Rattle.tql_lex.specs.Pending.{room}
+use Rattle.tql_splitter.specs.Pending.{room}
 
 -- the first fault of a text that is not too long and has no closing `;`
 abbrev pub IsCutFault : List ℕ → Refusal → Type 0

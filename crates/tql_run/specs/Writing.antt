@@ -7,9 +7,9 @@ use Rattle.tql_spec.specs.Answer.{Answer}
 use Rattle.tql_spec.specs.Script.{Piece, statements}
 use Rattle.tql_spec.specs.Run.{Answering, RunBy}
 use Rattle.tql_spec.specs.Lines.{Placed, placed_from, placed_statements}
-use Rattle.tql_lex.specs.Stream.{Stream, to_do}
-use Rattle.tql_lex.specs.Holding.{Holds}
-use Rattle.tql_lex.specs.Pieces.{MayFollow, HasNone, GivesOne, GivesNone}
+use Rattle.tql_splitter.specs.Stream.{Stream, to_do}
+use Rattle.tql_splitter.specs.Holding.{Holds}
+use Rattle.tql_splitter.specs.Pieces.{MayFollow, HasNone, GivesOne, GivesNone}
 use Rattle.tql_result.specs.Devices.{Appends, HasFailed}
 use Rattle.tql_result.specs.Replies.{IsPrintableAnswer, answer_of}
 use Rattle.tql_result.specs.declared.answer.Answer as code

@@ -1,7 +1,7 @@
 //! The answer to a piece of a script.
 ghost use Rattle.tql_spec.specs.Machine.{State};
 ghost use Rattle.tql_spec.specs.Script as script;
-ghost use Rattle.tql_lex.specs.Pieces.{StandsFor};
+ghost use Rattle.tql_splitter.specs.Pieces.{StandsFor};
 ghost use Rattle.tql_value.specs.Refusals.{refusal_of};
 ghost use Rattle.tql_result.specs.Replies.{answer_of, IsPrintableAnswer};
 ghost use Rattle.tql_run.specs.Pieces.{IsCutFault};
@@ -9,9 +9,9 @@ ghost use Rattle.tql_run.specs.Responding.{Answered};
 
 use crate::responder::Responder;
 use tql_detail::detail::Detail;
-use tql_lex::piece::Piece;
 use tql_result::answer::Answer;
 use tql_result::reply::Reply;
+use tql_splitter::piece::Piece;
 use tql_value::refusal::Refusal;
 
 /// Returns the fault of a text that is not too long and has no closing `;`.

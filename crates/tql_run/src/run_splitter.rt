@@ -1,13 +1,13 @@
 //! The splitter of a run, with the line on which the open transaction was opened.
 ghost use Rattle.std.specs.Prelude.{◌≡◌, ◌≤◌, length, List, IsFalse, IfOk};
 ghost use Rattle.tql_spec.specs.Words.{is_empty};
-ghost use Rattle.tql_lex.specs.Feeding.{Feeds, Finishes};
+ghost use Rattle.tql_splitter.specs.Feeding.{Feeds, Finishes};
 
 use std::alloc::AllocError;
 use std::marker::Model;
-use tql_lex::splitter::Splitter;
 use tql_memory::Memory;
 use tql_result::reply::Verb;
+use tql_splitter::splitter::Splitter;
 
 /// A splitter, and the line of the START TRANSACTION for the transaction that is open. The line is known only if the
 /// statement came from this splitter. It appears in details only, so no contract covers it.
@@ -18,7 +18,7 @@ pub struct RunSplitter {
 }
 
 impl Model for RunSplitter {
-    ghost use Rattle.tql_lex.specs.Stream.{Stream};
+    ghost use Rattle.tql_splitter.specs.Stream.{Stream};
 
     ghost Value = { Stream };
 
@@ -27,7 +27,7 @@ impl Model for RunSplitter {
 
 impl RunSplitter {
     ghost use Rattle.std.specs.Prelude.{[]};
-    ghost use Rattle.tql_lex.specs.Holding.{Holds};
+    ghost use Rattle.tql_splitter.specs.Holding.{Holds};
 
     /// Creates a splitter that was fed nothing, as `Splitter::new` does.
     pub fn new(memory: Memory) -> Result<RunSplitter, AllocError>

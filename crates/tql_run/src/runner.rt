@@ -3,8 +3,8 @@ ghost use Rattle.std.specs.Prelude.{◌≡◌, ◌≤◌, ◌<◌, ◌+◌, List
 ghost use Rattle.tql_spec.specs.Answer as run;
 ghost use Rattle.tql_spec.specs.Machine.{State};
 ghost use Rattle.tql_result.specs.Replies.{answer_of};
-ghost use Rattle.tql_lex.specs.Stream.{to_do};
-ghost use Rattle.tql_lex.specs.Holding.{Holds};
+ghost use Rattle.tql_splitter.specs.Stream.{to_do};
+ghost use Rattle.tql_splitter.specs.Holding.{Holds};
 ghost use Rattle.tql_run.specs.Runs.{Runs, source_change, sink_change, count_of, most_bytes};
 ghost use Rattle.tql_run.specs.RunsIn.{RunsIn, manner, stops};
 ghost use Rattle.tql_run.specs.Hearing.{Hears, note_of, hearing_change};
@@ -21,11 +21,11 @@ use crate::responder::Responder;
 use crate::run_splitter::RunSplitter;
 use std::alloc::AllocError;
 use tql_detail::detail::Detail;
-use tql_lex::splitter::{LONGEST_PART, Splitter};
 use tql_result::answer::Answer;
 use tql_result::device::DeviceFault;
 use tql_result::reply::Reply;
 use tql_result::sink::Sink;
+use tql_splitter::splitter::{LONGEST_PART, Splitter};
 
 /// The maximum number of pulls in one run.
 pub const MOST_PULLS: u64 = 281_474_976_710_655;

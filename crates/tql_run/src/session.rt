@@ -1,7 +1,7 @@
 //! A script that arrives in parts, from a host that has no source and no sink.
 ghost use Rattle.std.specs.Prelude.{◌≡◌, ◌≤◌, [], length, min, take, IsTrue, IsFalse, IfOk};
 ghost use Rattle.tql_spec.specs.Words.{is_empty};
-ghost use Rattle.tql_lex.specs.Feeding.{Feeds, Finishes};
+ghost use Rattle.tql_splitter.specs.Feeding.{Feeds, Finishes};
 ghost use Rattle.tql_run.specs.Writing.{AnswersNext};
 
 use crate::responder::Responder;
@@ -10,9 +10,9 @@ use crate::runner::answer_next;
 use std::alloc::AllocError;
 use std::marker::Model;
 use tql_detail::detail::Detail;
-use tql_lex::splitter::LONGEST_PART;
 use tql_memory::Memory;
 use tql_result::answer::Answer;
+use tql_splitter::splitter::LONGEST_PART;
 
 /// A script that arrives in parts. The host feeds bytes as they come, and takes each answer as soon as its statement is
 /// whole. How the bytes are divided into parts does not matter.
@@ -24,7 +24,7 @@ pub struct Session {
 }
 
 impl Model for Session {
-    ghost use Rattle.tql_lex.specs.Stream.{Stream};
+    ghost use Rattle.tql_splitter.specs.Stream.{Stream};
 
     ghost Value = { Stream };
 
@@ -32,7 +32,7 @@ impl Model for Session {
 }
 
 impl Session {
-    ghost use Rattle.tql_lex.specs.Holding.{Holds};
+    ghost use Rattle.tql_splitter.specs.Holding.{Holds};
 
     /// Returns a session without any input. Allocates 65,536 bytes for a part and the same for the text of a statement.
     /// Longer texts are allocated in `memory` too.

@@ -6,8 +6,8 @@ ghost use Rattle.tql_spec.specs.Run.{HasSense, Says, finished};
 ghost use Rattle.tql_syntax.specs.Endings.{EndsText, end_of_word, is_work};
 
 use tql_lex::folding::is_folded;
-use tql_lex::splitter::LONGEST;
 use tql_lex::words::two_words;
+use tql_splitter::splitter::LONGEST;
 
 /// How a statement ends a transaction.
 #[derive(Clone, Copy, PartialEq, Eq, Debug)]

@@ -3,9 +3,9 @@ ghost use Rattle.std.specs.Prelude.{◌≡◌, ◌≤◌, length};
 ghost use Rattle.tql_syntax.specs.Texts.{ReadsText, SpellsText};
 
 use crate::parse::spelled;
-use tql_lex::splitter::LONGEST;
 use tql_lex::tokenizer::tokens;
 use tql_memory::Memory;
+use tql_splitter::splitter::LONGEST;
 use tql_syntax_tree::tree::Tree;
 use tql_value::refusal::Refusal;
 

@@ -3,10 +3,10 @@
 use std::alloc::AllocError;
 use std::test::Fail;
 use tql_index::index::IntervalIndex;
-use tql_index::tree_index::TreeIndex;
 use tql_list_index::list_index::ListIndex;
 use tql_memory::{Memory, memory};
 use tql_period::period::Period;
+use tql_tree_index::tree_index::TreeIndex;
 
 /// Returns the period of a step. There are few starts and lengths, so that periods nest and meet. Some periods reach to
 /// the least or the greatest number.

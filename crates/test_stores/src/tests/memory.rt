@@ -5,9 +5,9 @@ use crate::tests::prunings::{add, change};
 use crate::tests::stores::renewal;
 use std::process::Abort;
 use std::test::Fail;
-use tql_index::tree_index::TreeIndex;
 use tql_memory::{Memory, memory};
 use tql_store::store::{Delta, Store};
+use tql_tree_index::tree_index::TreeIndex;
 use tql_versions::version::HIGH;
 
 /// Makes a change in a transaction, and returns how many bytes of the store's memory it took. The change is then rolled

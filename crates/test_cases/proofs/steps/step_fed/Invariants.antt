@@ -1,5 +1,5 @@
 use Rattle.std.proofs.Common.{◌≡◌}
-use Rattle.tql_lex.specs.Stream.{to_do}
+use Rattle.tql_splitter.specs.Stream.{to_do}
 use Rattle.test_cases.proofs.steps.step_fed.Given as goal
 
 abbrev pub invariant-loop-piece : goal.invariant-loop-piece

@@ -1,6 +1,6 @@
 use Rattle.std.proofs.Common.{◌≡◌, drop, false}
 use Rattle.tql_spec.specs.FirstToken as spec
-use Rattle.tql_lex.proofs.CuttingLemmas.{plus}
+use Rattle.tql_lex.proofs.QuoteLemmas.{plus}
 use Rattle.tql_lex.proofs.extent.quote_end.Given as goal
 
 abbrev pub invariant-loop-index : goal.invariant-loop-index

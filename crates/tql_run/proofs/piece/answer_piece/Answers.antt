@@ -1,5 +1,5 @@
 use Rattle.std.proofs.Common.{subst}
-use Rattle.tql_lex.specs.Pieces.{StandsFor}
+use Rattle.tql_splitter.specs.Pieces.{StandsFor}
 use Rattle.tql_run.proofs.Faults.{text_answered, long_answered, memory_answered, cut_answered}
 use Rattle.tql_run.proofs.piece.answer_piece.Goals as goal
 

@@ -2,7 +2,7 @@ use Rattle.std.proofs.Common.{◌≡◌, ◌≤◌, ◌<◌, ◌+◌, ℕ, List,
 use Rattle.std.specs.Prelude.{IsTrue}
 use Rattle.tql_spec.specs.Answer.{Answer}
 use Rattle.tql_spec.specs.Machine.{State}
-use Rattle.tql_lex.specs.Stream.{to_do}
+use Rattle.tql_splitter.specs.Stream.{to_do}
 use Rattle.tql_run.specs.Runs.{most_bytes}
 use Rattle.tql_run.specs.RunsIn.{manner}
 use Rattle.tql_run.specs.Texts.{style_after, written_after}

@@ -1,7 +1,7 @@
 use Rattle.std.proofs.Common.{refl, subst, Option}
-use Rattle.tql_lex.specs.declared.piece.Piece.{Piece}
-use Rattle.tql_lex.specs.Pieces.{Gives, StandsFor}
-use Rattle.tql_lex.proofs.HoldLemmas.{given_as}
+use Rattle.tql_splitter.specs.declared.piece.Piece.{Piece}
+use Rattle.tql_splitter.specs.Pieces.{Gives, StandsFor}
+use Rattle.tql_splitter.proofs.HoldLemmas.{given_as}
 use Rattle.tql_run.proofs.runner.answer_whole.Goals as goal
 
 pub returns-in-Some : goal.returns-in-Some

@@ -1,0 +1,4 @@
+pub mod CuttingLemmas
+pub mod LookLemmas
+pub mod HoldLemmas
+pub mod RunLemmas

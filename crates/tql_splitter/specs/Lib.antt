@@ -1,0 +1,9 @@
+pub mod Stream
+pub mod Cutting
+pub mod Plain
+pub mod Pending
+pub mod Ready
+pub mod Holding
+pub mod Pieces
+pub mod Feeding
+pub mod Lending

@@ -1,0 +1,9 @@
+//! Splits a script, which arrives in parts, into statements.
+#![tactic(auto)]
+
+mod columns;
+mod pending;
+pub mod piece;
+mod ready;
+mod scan_state;
+pub mod splitter;

@@ -1,0 +1,4 @@
+mod Adding
+mod Sides
+mod Tops
+mod Turns
