@@ -36,7 +36,7 @@ pub const SOUND: Setting = Setting {
 
 impl Setting {
     /// Returns a reader of a script.
-    pub fn reader(self, script: &[u8]) -> Chunks<'_> {
+    pub fn reader<'a>(&self, script: &'a [u8]) -> Chunks<'a> {
         Chunks {
             left: script,
             size: self.size,
@@ -48,7 +48,7 @@ impl Setting {
     }
 
     /// Returns an empty writer.
-    pub fn writer(self, alloc: Global) -> Kept {
+    pub fn writer(&self, alloc: Global) -> Kept {
         Kept {
             bytes: Vec::new(alloc),
             size: self.taken,

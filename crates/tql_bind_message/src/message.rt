@@ -61,7 +61,7 @@ fn push_number(
     words: &mut Words,
     part: &str,
     catalog: &Catalog,
-    about: About,
+    about: &About,
 ) -> Result<(), AllocError> {
     match part {
         "values" => push_count(words, about.count, "value"),
@@ -83,7 +83,7 @@ fn push_part(
     part: &str,
     text: &str,
     catalog: &Catalog,
-    about: About,
+    about: &About,
 ) -> Result<(), AllocError> {
     match part {
         "at" => push_shown(words, piece(text, about.at)),
@@ -101,7 +101,7 @@ fn push_wording(
     wording: &str,
     text: &str,
     catalog: &Catalog,
-    about: About,
+    about: &About,
 ) -> Result<(), AllocError> {
     let mut left = wording;
     for _part in 0..MOST_PARTS {
@@ -124,7 +124,7 @@ fn is_text(text: &str, offset: u32) -> bool {
 }
 
 /// Returns how to write the literal of a date or a timestamp, if a text literal is used in its place.
-fn literal_hint(text: &str, about: About) -> &'static str {
+fn literal_hint(text: &str, about: &About) -> &'static str {
     let is_text = match about.cause {
         Cause::KindsDiffer => is_text(text, about.at) || is_text(text, about.to),
         Cause::CellKind => is_text(text, about.at),
@@ -190,7 +190,7 @@ fn push_name_hint(
     words: &mut Words,
     text: &str,
     catalog: &Catalog,
-    about: About,
+    about: &About,
 ) -> Result<(), AllocError> {
     let written = last_name(piece(text, about.at));
     match nearest_name(memory, written, text, catalog, about.cause)? {
@@ -212,7 +212,7 @@ fn hint_for(
     wording: &str,
     text: &str,
     catalog: &Catalog,
-    about: About,
+    about: &About,
 ) -> Result<Words, AllocError> {
     let mut hint = String::new(memory);
     push_wording(&mut hint, wording, text, catalog, about)?;
@@ -237,7 +237,7 @@ fn sharpened(text: &str, about: About) -> About {
 
 /// Returns the table that qualifies an unknown column, if no table reference of the statement has that name. Then the
 /// name occurs in the statement only before a dot.
-fn unknown_reference(text: &str, about: About) -> Option<&str> {
+fn unknown_reference<'a>(text: &'a str, about: &About) -> Option<&'a str> {
     if about.cause != Cause::NoColumn {
         return None;
     }
@@ -254,7 +254,7 @@ fn detail_of(
     memory: Memory,
     text: &str,
     catalog: &Catalog,
-    about: About,
+    about: &About,
 ) -> Result<Detail, AllocError> {
     let mut words = String::new(memory);
     if let Some(reference) = unknown_reference(text, about) {
@@ -303,7 +303,7 @@ pub fn message(
         return Ok(None);
     };
     let about = sharpened(text, about);
-    let mut detail = detail_of(memory, text, catalog, about)?;
+    let mut detail = detail_of(memory, text, catalog, &about)?;
     detail.place = place_at(text, about.at);
     Ok(Some(detail))
 }

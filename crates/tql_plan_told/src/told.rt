@@ -58,13 +58,13 @@ fn alias_at<'s>(select: &SelectTree<'s>, place: usize, number: usize) -> Option<
 
 /// Appends a table reference: its table, its alias if it has one, and which versions are read.
 fn say_reference(
-    told: Told<'_, '_, '_, '_>,
-    reference: Reference,
+    told: &Told<'_, '_, '_, '_>,
+    reference: &Reference,
     place: usize,
     number: usize,
     words: &mut Words,
 ) -> Result<(), AllocError> {
-    if let Some(definition) = definition_of(told.catalog, reference) {
+    if let Some(definition) = definition_of(told.catalog, *reference) {
         push_behind(words, "", definition.name())?;
     }
     if let Some(alias) = alias_at(told.select, place, number) {
@@ -239,7 +239,7 @@ fn say_partners(
 
 impl<'t, 'p> Told<'t, '_, '_, 'p> {
     /// Returns the equality that joins the chain at this index to the chains before it, if any.
-    fn chain_equality(self, place: usize) -> Option<Equality> {
+    fn chain_equality(&self, place: usize) -> Option<Equality> {
         if place.saturating_add(1) >= self.plan.query.chains.len() {
             self.plan.equality
         } else {
@@ -248,7 +248,7 @@ impl<'t, 'p> Told<'t, '_, '_, 'p> {
     }
 
     /// Returns the columns of the index that the join can use, if any.
-    fn chain_key(self, place: usize) -> Option<&'p [usize]> {
+    fn chain_key(&self, place: usize) -> Option<&'p [usize]> {
         if place.saturating_add(1) >= self.plan.query.chains.len() {
             self.plan.key
         } else {
@@ -257,7 +257,7 @@ impl<'t, 'p> Told<'t, '_, '_, 'p> {
     }
 
     /// Returns the columns that the equality equates.
-    fn chain_equal(self, place: usize, chain: &Chain) -> Option<Equal<'t>> {
+    fn chain_equal(&self, place: usize, chain: &Chain) -> Option<Equal<'t>> {
         let equality = self.chain_equality(place)?;
         Some(Equal {
             near: chains_column(self.catalog, &self.plan.query.chains, equality.near)?,
@@ -267,7 +267,12 @@ impl<'t, 'p> Told<'t, '_, '_, 'p> {
     }
 
     /// Appends the join method of a chain with the chains before it.
-    fn say_product(self, place: usize, chain: &Chain, words: &mut Words) -> Result<(), AllocError> {
+    fn say_product(
+        &self,
+        place: usize,
+        chain: &Chain,
+        words: &mut Words,
+    ) -> Result<(), AllocError> {
         say_partners(
             definition_of(self.catalog, chain.first),
             self.chain_key(place),
@@ -278,52 +283,52 @@ impl<'t, 'p> Told<'t, '_, '_, 'p> {
     }
 
     /// Appends the joins of a chain, each after a comma.
-    fn say_joins(self, place: usize, chain: &Chain, words: &mut Words) -> Result<(), AllocError> {
+    fn say_joins(&self, place: usize, chain: &Chain, words: &mut Words) -> Result<(), AllocError> {
         for (at, join) in chain.joins.iter().enumerate() {
             words.push_str(", ")?;
-            say_reference(self, join.reference, place, at.saturating_add(1), words)?;
-            self.say_step(place, at, chain, join.reference, words)?;
+            say_reference(self, &join.reference, place, at.saturating_add(1), words)?;
+            self.say_step(place, at, chain, &join.reference, words)?;
         }
         Ok(())
     }
 
     /// Returns the equality that joins a reference to the references before it in its chain, if any.
-    fn step_equality(self, place: usize, at: usize) -> Option<Equality> {
+    fn step_equality(&self, place: usize, at: usize) -> Option<Equality> {
         self.plan.chains.get(place)?.joins.get(at)?.equality
     }
 
     /// Returns the columns of the index that the join can use, if any.
-    fn step_key(self, place: usize, at: usize) -> Option<&'p [usize]> {
+    fn step_key(&self, place: usize, at: usize) -> Option<&'p [usize]> {
         self.plan.chains.get(place)?.joins.get(at)?.key
     }
 
     /// Returns the columns that the equality equates.
     fn step_equal(
-        self,
+        &self,
         place: usize,
         at: usize,
         chain: &Chain,
-        reference: Reference,
+        reference: &Reference,
     ) -> Option<Equal<'t>> {
         let equality = self.step_equality(place, at)?;
         Some(Equal {
             near: chain_column(self.catalog, chain, equality.near)?,
             number: equality.far,
-            far: reference_column(self.catalog, reference, equality.far)?,
+            far: reference_column(self.catalog, *reference, equality.far)?,
         })
     }
 
     /// Appends the join method of a join.
     fn say_step(
-        self,
+        &self,
         place: usize,
         at: usize,
         chain: &Chain,
-        reference: Reference,
+        reference: &Reference,
         words: &mut Words,
     ) -> Result<(), AllocError> {
         say_partners(
-            definition_of(self.catalog, reference),
+            definition_of(self.catalog, *reference),
             self.step_key(place, at),
             self.step_equal(place, at, chain, reference),
             is_step_within(self.plan, chain, place, at),
@@ -332,9 +337,9 @@ impl<'t, 'p> Told<'t, '_, '_, 'p> {
     }
 
     /// Appends the first reference of the first chain, and its access path.
-    fn say_first(self, reference: Reference, words: &mut Words) -> Result<(), AllocError> {
+    fn say_first(&self, reference: &Reference, words: &mut Words) -> Result<(), AllocError> {
         say_reference(self, reference, 0, 0, words)?;
-        match definition_of(self.catalog, reference) {
+        match definition_of(self.catalog, *reference) {
             Some(definition) => match &self.plan.alternatives {
                 Some(alternatives) => say_alternatives(definition, alternatives, words),
                 None => say_sought(definition, self.plan.access.sought(), words),
@@ -344,13 +349,13 @@ impl<'t, 'p> Told<'t, '_, '_, 'p> {
     }
 
     /// Appends a chain after others: a single reference as it is, several in parentheses.
-    fn say_next(self, place: usize, chain: &Chain, words: &mut Words) -> Result<(), AllocError> {
+    fn say_next(&self, place: usize, chain: &Chain, words: &mut Words) -> Result<(), AllocError> {
         if chain.joins.is_empty() {
             words.push_str(", ")?;
-            say_reference(self, chain.first, place, 0, words)?;
+            say_reference(self, &chain.first, place, 0, words)?;
         } else {
             words.push_str(", (")?;
-            say_reference(self, chain.first, place, 0, words)?;
+            say_reference(self, &chain.first, place, 0, words)?;
             words.push_str(" read whole")?;
             self.say_joins(place, chain, words)?;
             words.push_str(")")?;
@@ -359,9 +364,9 @@ impl<'t, 'p> Told<'t, '_, '_, 'p> {
     }
 
     /// Appends the chain at an index.
-    fn say_chain(self, place: usize, chain: &Chain, words: &mut Words) -> Result<(), AllocError> {
+    fn say_chain(&self, place: usize, chain: &Chain, words: &mut Words) -> Result<(), AllocError> {
         if place == 0 {
-            self.say_first(chain.first, words)?;
+            self.say_first(&chain.first, words)?;
             self.say_joins(place, chain, words)
         } else {
             self.say_next(place, chain, words)
@@ -370,14 +375,14 @@ impl<'t, 'p> Told<'t, '_, '_, 'p> {
 
     /// Returns the qualifier of a reference's columns: its alias, or the name of its table.
     fn qualifier(
-        self,
+        &self,
         place: usize,
         number: usize,
-        reference: Reference,
+        reference: &Reference,
     ) -> Result<Words, AllocError> {
         match (
             alias_at(self.select, place, number),
-            definition_of(self.catalog, reference),
+            definition_of(self.catalog, *reference),
         ) {
             (Some(alias), _) => alias.meant(self.memory),
             (None, Some(definition)) => String::from_str(self.memory, definition.name()),
@@ -387,21 +392,21 @@ impl<'t, 'p> Told<'t, '_, '_, 'p> {
 
     /// Appends the qualifiers of a chain's references.
     fn add_qualifiers(
-        self,
+        &self,
         place: usize,
         chain: &Chain,
         names: &mut Vec<Words, Memory>,
     ) -> Result<(), AllocError> {
-        names.push(self.qualifier(place, 0, chain.first)?)?;
+        names.push(self.qualifier(place, 0, &chain.first)?)?;
         for (at, join) in chain.joins.iter().enumerate() {
-            let name = self.qualifier(place, at.saturating_add(1), join.reference)?;
+            let name = self.qualifier(place, at.saturating_add(1), &join.reference)?;
             names.push(name)?;
         }
         Ok(())
     }
 
     /// Returns the qualifiers of all references, from the left. Empty if there is only one.
-    fn qualifiers(self) -> Result<Vec<Words, Memory>, AllocError> {
+    fn qualifiers(&self) -> Result<Vec<Words, Memory>, AllocError> {
         let mut names = Vec::new(self.memory);
         if is_lone(&self.plan.query.chains) {
             return Ok(names);
@@ -413,7 +418,7 @@ impl<'t, 'p> Told<'t, '_, '_, 'p> {
     }
 
     /// Appends the first calculation of ON and WHERE.
-    fn say_calculation(self, words: &mut Words) -> Result<(), AllocError> {
+    fn say_calculation(&self, words: &mut Words) -> Result<(), AllocError> {
         let query = self.plan.query;
         let qualifiers = self.qualifiers()?;
         let names = Names {
@@ -421,16 +426,16 @@ impl<'t, 'p> Told<'t, '_, '_, 'p> {
             qualifiers: &qualifiers,
         };
         if let Some(calculation) = first_in_on(query) {
-            return push_calculation(words, names, &query.terms, calculation);
+            return push_calculation(words, &names, &query.terms, calculation);
         }
         match first_in_where(query) {
-            Some(calculation) => push_calculation(words, names, &query.terms, calculation),
+            Some(calculation) => push_calculation(words, &names, &query.terms, calculation),
             None => Ok(()),
         }
     }
 
     /// Appends the calculation that may be out of range, if the plan is unsafe and has no lookup.
-    fn say_reason(self, words: &mut Words) -> Result<(), AllocError> {
+    fn say_reason(&self, words: &mut Words) -> Result<(), AllocError> {
         let is_found = self.plan.access.sought().is_some() || self.plan.alternatives.is_some();
         if self.plan.is_safe || is_found {
             return Ok(());
@@ -438,6 +443,16 @@ impl<'t, 'p> Told<'t, '_, '_, 'p> {
         words.push_str(", since ")?;
         self.say_calculation(words)?;
         words.push_str(" may be out of range")
+    }
+
+    /// Describes the plan.
+    fn words(&self) -> Result<Words, AllocError> {
+        let mut words = String::new(self.memory);
+        for (place, chain) in self.plan.query.chains.iter().enumerate() {
+            self.say_chain(place, chain, &mut words)?;
+        }
+        self.say_reason(&mut words)?;
+        Ok(words)
     }
 }
 
@@ -458,10 +473,5 @@ pub fn plan_words(
         select,
         plan,
     };
-    let mut words = String::new(memory);
-    for (place, chain) in plan.query.chains.iter().enumerate() {
-        told.say_chain(place, chain, &mut words)?;
-    }
-    told.say_reason(&mut words)?;
-    Ok(words)
+    told.words()
 }

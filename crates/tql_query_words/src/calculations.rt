@@ -144,7 +144,7 @@ pub fn first_in_where(query: &BoundQuery) -> Option<Calculation<'_>>
 /// Appends a column's name.
 fn push_column(
     words: &mut Words,
-    names: Names<'_>,
+    names: &Names<'_>,
     rows: Rows<'_>,
     column: usize,
 ) -> Result<(), AllocError> {
@@ -164,7 +164,7 @@ fn push_column(
 /// Appends an operand: a column or a number, and `..` for anything else.
 fn push_operand(
     words: &mut Words,
-    names: Names<'_>,
+    names: &Names<'_>,
     terms: &Terms,
     rows: Rows<'_>,
     operand: ExprId,
@@ -190,7 +190,7 @@ fn sign_of(operation: Operation) -> &'static str {
 /// Appends a calculation whose operands calculate nothing.
 pub fn push_calculation(
     words: &mut Words,
-    names: Names<'_>,
+    names: &Names<'_>,
     terms: &Terms,
     calculation: Calculation<'_>,
 ) -> Result<(), AllocError>

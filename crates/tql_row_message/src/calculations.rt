@@ -227,7 +227,7 @@ fn push_only(
         qualifiers: &qualifiers,
     };
     words.push_str(": ")?;
-    push_calculation(words, names, &query.terms, calculation)
+    push_calculation(words, &names, &query.terms, calculation)
 }
 
 /// Returns the message of a query that calculates a number out of range.

@@ -73,7 +73,7 @@ pub fn push_view(words: &mut Words, value: View<'_>) -> Result<(), AllocError> {
 
 impl<'a> Cells<'a> {
     /// Returns the value of a column, by its number; NULL if the row does not store the column.
-    pub fn value(self, number: usize) -> View<'a> {
+    pub fn value(&self, number: usize) -> View<'a> {
         let stored = self.definition.assignable();
         match stored.iter().position(|column| *column == number) {
             Some(place) => self.row.column(place),
@@ -82,12 +82,12 @@ impl<'a> Cells<'a> {
     }
 
     /// Appends the value of a column.
-    pub fn push_value(self, words: &mut Words, number: usize) -> Result<(), AllocError> {
+    pub fn push_value(&self, words: &mut Words, number: usize) -> Result<(), AllocError> {
         push_view(words, self.value(number))
     }
 
     /// Appends the values of columns: `(1, 'x')`.
-    pub fn push_values(self, words: &mut Words, columns: &[usize]) -> Result<(), AllocError> {
+    pub fn push_values(&self, words: &mut Words, columns: &[usize]) -> Result<(), AllocError> {
         let mut before = "(";
         for number in columns {
             words.push_str(before)?;
@@ -98,14 +98,14 @@ impl<'a> Cells<'a> {
     }
 
     /// Appends the names of columns and their values: `(A, B) = (1, 'x')`.
-    pub fn push_tuple(self, words: &mut Words, columns: &[usize]) -> Result<(), AllocError> {
+    pub fn push_tuple(&self, words: &mut Words, columns: &[usize]) -> Result<(), AllocError> {
         push_names(words, self.definition, columns)?;
         words.push_str(" = ")?;
         self.push_values(words, columns)
     }
 
     /// Appends the application period, if the table has one: ` from 2024-01-01 to 2025-01-01`.
-    pub fn push_period(self, words: &mut Words) -> Result<(), AllocError> {
+    pub fn push_period(&self, words: &mut Words) -> Result<(), AllocError> {
         match self.definition.application() {
             Some(application) => {
                 words.push_str(" from ")?;
@@ -122,7 +122,7 @@ impl<'a> Cells<'a> {
 pub fn push_subject(
     words: &mut Words,
     subject: Subject,
-    cells: Cells<'_>,
+    cells: &Cells<'_>,
 ) -> Result<(), AllocError> {
     if let Subject::Numbered(row) = subject {
         return write!(words, "row {}", row.saturating_add(1));

@@ -31,7 +31,7 @@ pub(crate) fn name_check(
 /// Appends the values of the columns that a CHECK reads, and adds these columns to the detail: `: A = 1, B = 'x'`.
 pub fn push_values_read(
     detail: &mut Detail,
-    cells: Cells<'_>,
+    cells: &Cells<'_>,
     check: usize,
 ) -> Result<(), AllocError> {
     let definition = cells.definition;

@@ -21,7 +21,7 @@ fn push_limit(words: &mut Words, definition: &TableDef, column: usize) -> Result
 }
 
 /// Returns the number of a column, by its number among the columns that are not generated.
-fn column_number(cells: Cells<'_>, stored: usize) -> usize {
+fn column_number(cells: &Cells<'_>, stored: usize) -> usize {
     match cells.definition.assignable().get(stored) {
         Some(number) => *number,
         None => 0,
@@ -29,7 +29,7 @@ fn column_number(cells: Cells<'_>, stored: usize) -> usize {
 }
 
 /// Appends a text that is too long: `: NAME = 'a text' is longer than VARCHAR(5)`.
-fn push_long_text(words: &mut Words, cells: Cells<'_>, column: usize) -> Result<(), AllocError> {
+fn push_long_text(words: &mut Words, cells: &Cells<'_>, column: usize) -> Result<(), AllocError> {
     words.push_str(": ")?;
     push_column(words, cells.definition, column)?;
     words.push_str(" = ")?;
@@ -39,14 +39,14 @@ fn push_long_text(words: &mut Words, cells: Cells<'_>, column: usize) -> Result<
 }
 
 /// Appends a column that is NULL: `: column NAME is NULL`.
-fn push_null(words: &mut Words, cells: Cells<'_>, column: usize) -> Result<(), AllocError> {
+fn push_null(words: &mut Words, cells: &Cells<'_>, column: usize) -> Result<(), AllocError> {
     words.push_str(": column ")?;
     push_column(words, cells.definition, column)?;
     words.push_str(" is NULL")
 }
 
 /// Appends a period that does not rise: `: VALID from 2025-01-01 to 2024-01-01 does not rise`.
-fn tell_fallen(detail: &mut Detail, cells: Cells<'_>) -> Result<(), AllocError> {
+fn tell_fallen(detail: &mut Detail, cells: &Cells<'_>) -> Result<(), AllocError> {
     detail.words.push_str(": ")?;
     if let Some(application) = cells.definition.application() {
         push_shown(&mut detail.words, application.name.as_str())?;
@@ -60,7 +60,7 @@ fn tell_fallen(detail: &mut Detail, cells: Cells<'_>) -> Result<(), AllocError> 
 /// Appends the name of a CHECK between these words, and the values of the columns that it reads.
 fn tell_check(
     detail: &mut Detail,
-    cells: Cells<'_>,
+    cells: &Cells<'_>,
     check: usize,
     before: &str,
     behind: &str,
@@ -72,7 +72,7 @@ fn tell_check(
 }
 
 /// Appends why a row fails, after the row itself.
-fn tell_failed(detail: &mut Detail, cells: Cells<'_>, failed: Failed) -> Result<(), AllocError> {
+fn tell_failed(detail: &mut Detail, cells: &Cells<'_>, failed: Failed) -> Result<(), AllocError> {
     match failed {
         Failed::LongText(stored) => {
             let column = column_number(cells, stored);
@@ -97,7 +97,7 @@ fn tell_failed(detail: &mut Detail, cells: Cells<'_>, failed: Failed) -> Result<
 pub fn fault_detail(
     memory: Memory,
     subject: Subject,
-    cells: Cells<'_>,
+    cells: &Cells<'_>,
     failed: Failed,
 ) -> Option<Detail> {
     let mut detail = Detail::of(String::new(memory));

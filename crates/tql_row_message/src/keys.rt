@@ -19,7 +19,7 @@ pub struct Rival<'a> {
 fn push_row(
     words: &mut Words,
     subject: Subject,
-    cells: Cells<'_>,
+    cells: &Cells<'_>,
     key: &Key,
 ) -> Result<(), AllocError> {
     push_owner(words, subject)?;
@@ -31,7 +31,7 @@ fn push_row(
 }
 
 /// Appends the row that has these values already: ` already holds in row 1 of the statement`.
-fn push_rival(words: &mut Words, key: &Key, rival: Rival<'_>) -> Result<(), AllocError> {
+fn push_rival(words: &mut Words, key: &Key, rival: &Rival<'_>) -> Result<(), AllocError> {
     words.push_str(" already holds")?;
     if key.by_period {
         rival.cells.push_period(words)?;
@@ -49,9 +49,9 @@ fn push_rival(words: &mut Words, key: &Key, rival: Rival<'_>) -> Result<(), Allo
 fn tell_clash(
     detail: &mut Detail,
     subject: Subject,
-    cells: Cells<'_>,
+    cells: &Cells<'_>,
     key: &Key,
-    rival: Rival<'_>,
+    rival: &Rival<'_>,
 ) -> Result<(), AllocError> {
     let definition = cells.definition;
     push_row(&mut detail.words, subject, cells, key)?;
@@ -66,9 +66,9 @@ fn tell_clash(
 pub fn key_detail(
     memory: Memory,
     subject: Subject,
-    cells: Cells<'_>,
+    cells: &Cells<'_>,
     number: usize,
-    rival: Rival<'_>,
+    rival: &Rival<'_>,
 ) -> Option<Detail> {
     let key = cells.definition.keys().get(number)?;
     let mut detail = Detail::of(String::new(memory));

@@ -12,7 +12,7 @@ use tql_memory::Memory;
 /// Appends the values of a child row: `(A) = (7)`, and its period if the reference has PERIOD.
 fn push_values(
     words: &mut Words,
-    cells: Cells<'_>,
+    cells: &Cells<'_>,
     reference: &Reference,
 ) -> Result<(), AllocError> {
     cells.push_tuple(words, &reference.columns)?;
@@ -25,7 +25,7 @@ fn push_values(
 /// Appends the name of the reference in parentheses, and sets it as the constraint of the detail.
 fn name_reference(
     detail: &mut Detail,
-    cells: Cells<'_>,
+    cells: &Cells<'_>,
     reference: &Reference,
 ) -> Result<(), AllocError> {
     detail.words.push_str(" (")?;
@@ -38,7 +38,7 @@ fn name_reference(
 fn tell_missing(
     detail: &mut Detail,
     subject: Subject,
-    cells: Cells<'_>,
+    cells: &Cells<'_>,
     reference: &Reference,
 ) -> Result<(), AllocError> {
     let words = &mut detail.words;
@@ -58,7 +58,7 @@ fn tell_missing(
 /// Appends a parent row that is changed or removed, and the child row that still references it.
 fn tell_still_referenced(
     detail: &mut Detail,
-    cells: Cells<'_>,
+    cells: &Cells<'_>,
     reference: &Reference,
     parent: &TableDef,
 ) -> Result<(), AllocError> {
@@ -82,7 +82,7 @@ fn tell_still_referenced(
 pub fn missing_detail(
     memory: Memory,
     subject: Subject,
-    cells: Cells<'_>,
+    cells: &Cells<'_>,
     reference: usize,
 ) -> Option<Detail> {
     let reference = cells.definition.references().get(reference)?;
@@ -96,7 +96,7 @@ pub fn missing_detail(
 /// reference with this number (E36). The names of its columns come from the parent table.
 pub fn referenced_detail(
     memory: Memory,
-    cells: Cells<'_>,
+    cells: &Cells<'_>,
     reference: usize,
     parent: &TableDef,
 ) -> Option<Detail> {

@@ -20,7 +20,7 @@ fn is_right(end: Result<Summary, Fault>, found: &Outcome, output: &[u8], text: &
 fn is_answered(rt: &impl AllocGlobal, script: Script, front: &[u8]) -> Result<bool, Fail> {
     let all = memory(rt.alloc(), u64::MAX)?;
     let cut = cut_with_rest(rt.alloc(), script, front.len())?;
-    let found = run_script(rt, front, BY_SEVEN)?;
+    let found = run_script(rt, front, &BY_SEVEN)?;
     let mut output = Vec::new(all);
     let end = run_bytes(&mut Engine::new(all), front, &mut output);
     Ok(is_right(end, &found, &output, &cut.text))

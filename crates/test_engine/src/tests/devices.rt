@@ -29,7 +29,7 @@ pub fn run_on(
     rt: &impl AllocGlobal,
     engine: &mut Engine,
     script: &[u8],
-    setting: Setting,
+    setting: &Setting,
 ) -> Outcome {
     let mut source = StdSource::new(setting.reader(script));
     let mut sink = StdSink::new(setting.writer(rt.alloc()));
@@ -48,7 +48,11 @@ pub fn run_on(
 }
 
 /// Runs a script on a new engine.
-pub fn run_script(rt: &impl AllocGlobal, script: &[u8], setting: Setting) -> Result<Outcome, Fail> {
+pub fn run_script(
+    rt: &impl AllocGlobal,
+    script: &[u8],
+    setting: &Setting,
+) -> Result<Outcome, Fail> {
     let mut engine = Engine::new(memory(rt.alloc(), setting.granted)?);
     Ok(run_on(rt, &mut engine, script, setting))
 }

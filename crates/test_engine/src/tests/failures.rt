@@ -63,36 +63,36 @@ static DEVICES: [(Setting, Failing, Failing); 13] = [
 ];
 
 /// Returns devices with a failure after `calls` calls.
-fn with_failure(setting: Setting, failing: Failing, calls: u64) -> Setting {
+fn with_failure(setting: &Setting, failing: Failing, calls: u64) -> Setting {
     match failing {
-        Failing::Nothing => setting,
+        Failing::Nothing => *setting,
         Failing::Reads => Setting {
             reads: calls,
-            ..setting
+            ..*setting
         },
         Failing::End => Setting {
             giving: calls,
-            ..setting
+            ..*setting
         },
         Failing::Writes => Setting {
             writes: calls,
-            ..setting
+            ..*setting
         },
         Failing::Flushes => Setting {
             flushes: calls,
-            ..setting
+            ..*setting
         },
     }
 }
 
 /// Returns how many of `length` bytes this number of reads returns.
-fn coming(setting: Setting, reads: u64, length: usize) -> usize {
+fn coming(setting: &Setting, reads: u64, length: usize) -> usize {
     let given = reads.saturating_mul(setting.size as u64);
     given.min(length as u64) as usize
 }
 
 /// Whether a read fails before one reports the end of the input.
-fn source_fails(setting: Setting, length: usize) -> bool {
+fn source_fails(setting: &Setting, length: usize) -> bool {
     match setting.reads.checked_sub(1) {
         Some(before) => {
             setting.reads <= setting.giving && coming(setting, before, length) < length
@@ -166,7 +166,7 @@ fn goes_on(
 ) -> Result<bool, Fail> {
     let rest = bytes_from(rt.alloc(), script, ran)?;
     let text = text_from(rt.alloc(), script, ran)?;
-    let found = run_on(rt, engine, &rest, SOUND);
+    let found = run_on(rt, engine, &rest, &SOUND);
     Ok(found.end.is_ok() && found.text == text)
 }
 
@@ -175,7 +175,7 @@ fn tried_on(
     rt: &impl AllocGlobal,
     engine: &mut Engine,
     script: Script,
-    setting: Setting,
+    setting: &Setting,
     bytes: &[u8],
     cut: &Cut,
     fails: bool,
@@ -199,7 +199,7 @@ fn expected(alloc: Global, script: Script, came: usize, fails: bool) -> Result<C
 }
 
 /// Runs a script on a new engine, and then the statements that did not run.
-fn tried(rt: &impl AllocGlobal, script: Script, setting: Setting) -> Result<Trial, Fail> {
+fn tried(rt: &impl AllocGlobal, script: Script, setting: &Setting) -> Result<Trial, Fail> {
     let memory = memory(rt.alloc(), setting.granted)?;
     let bytes = bytes_from(rt.alloc(), script, 0)?;
     let came = coming(setting, setting.reads.min(setting.giving), bytes.len());
@@ -216,11 +216,11 @@ fn tried(rt: &impl AllocGlobal, script: Script, setting: Setting) -> Result<Tria
 fn at_each_sink_call(
     rt: &impl AllocGlobal,
     script: Script,
-    setting: Setting,
+    setting: &Setting,
     failing: Failing,
 ) -> Result<Option<Trial>, Fail> {
     for calls in 0..MOST_CALLS {
-        let trial = tried(rt, script, with_failure(setting, failing, calls))?;
+        let trial = tried(rt, script, &with_failure(setting, failing, calls))?;
         if !trial.is_right || !trial.sink_failed || failing == Failing::Nothing {
             return Ok(Some(trial));
         }
@@ -233,13 +233,13 @@ fn at_each_sink_call(
 fn at_each_call(
     rt: &impl AllocGlobal,
     script: Script,
-    setting: Setting,
+    setting: &Setting,
     source: Failing,
     sink: Failing,
 ) -> Result<bool, Fail> {
     for calls in 0..MOST_CALLS {
         let devices = with_failure(setting, source, calls);
-        match at_each_sink_call(rt, script, devices, sink)? {
+        match at_each_sink_call(rt, script, &devices, sink)? {
             Some(trial) if !trial.is_right => return Ok(false),
             Some(trial) if !trial.source_failed || source == Failing::Nothing => return Ok(true),
             Some(_) => {}
@@ -251,8 +251,8 @@ fn at_each_call(
 
 /// Runs a script on all devices. Returns the number of the first devices on which a run is wrong, if any.
 fn by_all_devices(rt: &impl AllocGlobal, script: Script) -> Result<Option<usize>, Fail> {
-    for (number, &(setting, source, sink)) in DEVICES.iter().enumerate() {
-        if !at_each_call(rt, script, setting, source, sink)? {
+    for (number, (setting, source, sink)) in DEVICES.iter().enumerate() {
+        if !at_each_call(rt, script, setting, *source, *sink)? {
             return Ok(Some(number));
         }
     }

@@ -27,7 +27,7 @@ fn counts(summary: Summary) -> (u64, u64) {
 fn run_script(
     rt: &impl AllocGlobal,
     script: &[u8],
-    setting: Setting,
+    setting: &Setting,
     stops: bool,
 ) -> Result<Outcome, Fail> {
     let mut lengths = Lengths {
@@ -247,7 +247,7 @@ static CASES: [Case<'static>; 33] = [
 /// Returns the number of cases before the first that ends or writes otherwise.
 fn right_cases(rt: &impl AllocGlobal, cases: &[Case<'_>], stops: bool) -> Result<usize, Fail> {
     for (number, (script, setting, end, text)) in cases.iter().enumerate() {
-        let outcome = run_script(rt, script, *setting, stops)?;
+        let outcome = run_script(rt, script, setting, stops)?;
         if outcome.end != *end || outcome.text.as_slice() != text.as_bytes() {
             return Ok(number);
         }
@@ -332,7 +332,7 @@ fn long_texts_grow(rt: HostRuntime) -> Result<(), Fail> {
 /// Runs a script whose writes fail after the first `writes`. Returns whether the run ends with that fault and has
 /// written a prefix of the replies of at least `shortest` bytes; and the length of that prefix.
 fn cut(rt: &impl AllocGlobal, writes: u64, shortest: usize) -> Result<(bool, usize), Fail> {
-    let Outcome { end, text } = run_script(rt, SCRIPT, Setting { writes, ..SOUND }, false)?;
+    let Outcome { end, text } = run_script(rt, SCRIPT, &Setting { writes, ..SOUND }, false)?;
     let is_whole = text.len() == WHOLE.len();
     let is_right = end.is_ok() == is_whole && (is_whole || end == Err(Fault::Write));
     let is_beginning = WHOLE.as_bytes().starts_with(&text) && shortest <= text.len();

@@ -83,7 +83,7 @@ impl<I: IntervalIndex> Held<'_, I> {
         let row = rows.get(failure.row)?;
         let cells = Cells { definition, row };
         let subject = subject(is_insert, failure.row);
-        fault_detail(self.memory, subject, cells, failure.failed)
+        fault_detail(self.memory, subject, &cells, failure.failed)
     }
 
     /// Returns the cells of the row that a row clashes with, and which row it is.
@@ -128,7 +128,7 @@ impl<I: IntervalIndex> Held<'_, I> {
         let cells = Cells { definition, row };
         let rival = self.rival(table, delta, is_insert, failure.other)?;
         let subject = subject(is_insert, failure.row);
-        key_detail(self.memory, subject, cells, failure.key, rival)
+        key_detail(self.memory, subject, &cells, failure.key, &rival)
     }
 
     /// Returns the detail of the first reference that fails (E36).
@@ -152,14 +152,14 @@ impl<I: IntervalIndex> Held<'_, I> {
                 let row = delta.added.get(number)?;
                 let cells = Cells { definition, row };
                 let subject = subject(is_insert, number);
-                missing_detail(self.memory, subject, cells, failure.reference)
+                missing_detail(self.memory, subject, &cells, failure.reference)
             }
             RowRef::Stored(id) => {
                 let kept = self.store.row(child.id, id)?.kept;
                 let row = &kept.row;
                 let cells = Cells { definition, row };
                 let parent = &self.table_at(place).definition;
-                referenced_detail(self.memory, cells, failure.reference, parent)
+                referenced_detail(self.memory, &cells, failure.reference, parent)
             }
         }
     }
