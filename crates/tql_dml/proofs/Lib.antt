@@ -16,6 +16,4 @@ pub mod Texts
 pub mod Brief
 pub mod Modified
 pub mod PointChanges
-pub mod Failing
-pub mod TupleRows
 pub mod PointRefusals

@@ -1,7 +1,6 @@
 pub mod Cells
 pub mod Current
 pub mod Cutting
-pub mod Failing
 pub mod Alters
 pub mod Parts
 pub mod PointChanges

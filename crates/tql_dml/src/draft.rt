@@ -17,10 +17,10 @@ use tql_value::refusal::Refusal;
 use tql_value::value::View;
 
 /// The cells of a row that is made. Up to eight make no allocation.
-pub(crate) type Draft<'a> = SmallVec<View<'a>, 8, Memory>;
+pub type Draft<'a> = SmallVec<View<'a>, 8, Memory>;
 
 /// Returns a row of `width` NULLs. The only error is a refused allocation.
-pub(crate) fn nulls<'a>(memory: Memory, width: usize) -> Result<Draft<'a>, Refusal>
+pub fn nulls<'a>(memory: Memory, width: usize) -> Result<Draft<'a>, Refusal>
     ensures row { IfOk result (λ row. data_of row.items ≡ replicate width Null) }
     ensures memory { IfErr result (λ e. e ≡ OutOfMemory) }
 {
@@ -32,7 +32,7 @@ pub(crate) fn nulls<'a>(memory: Memory, width: usize) -> Result<Draft<'a>, Refus
 }
 
 /// Returns the values of a row, for reading. The only error is a refused allocation.
-pub(crate) fn views_of<'a>(memory: Memory, row: &'a Row) -> Result<Draft<'a>, Refusal>
+pub fn views_of<'a>(memory: Memory, row: &'a Row) -> Result<Draft<'a>, Refusal>
     ensures row { IfOk result (λ views. data_of views.items ≡ row.now) }
     ensures memory { IfErr result (λ e. e ≡ OutOfMemory) }
 {
@@ -54,7 +54,7 @@ pub(crate) fn put<'a>(row: &mut [View<'a>], column: usize, value: View<'a>)
 }
 
 /// Puts the values into their columns. The longer of the two lists is cut.
-pub(crate) fn fill<'a>(row: &mut [View<'a>], columns: &[usize], values: &[View<'a>])
+pub fn fill<'a>(row: &mut [View<'a>], columns: &[usize], values: &[View<'a>])
     ensures { data_of row.new ≡ filled (data_of row.old) columns.now (data_of values.now) }
 {
     for place in 0..columns.len().min(values.len()) {
@@ -87,7 +87,7 @@ fn drop_generated(row: Draft<'_>, system: Option<System>) -> Draft<'_>
 }
 
 /// Packs a row, without the cells of the generated columns. The only error is a refused allocation.
-pub(crate) fn packed(memory: Memory, row: Draft<'_>, system: Option<System>) -> Result<Row, Refusal>
+pub fn packed(memory: Memory, row: Draft<'_>, system: Option<System>) -> Result<Row, Refusal>
     ensures row { IfOk result (λ stored. stored
         ≡ without_generated (option_map system_of system) (data_of row.entry.items)) }
     ensures memory { IfErr result (λ e. e ≡ OutOfMemory) }

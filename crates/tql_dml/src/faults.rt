@@ -67,7 +67,7 @@ fn is_lacking(column: &Column, row: &Row, place: usize) -> bool
 }
 
 /// Whether a cell is a text too long for the column of this number.
-pub(crate) fn is_too_long_at(columns: &[Column], number: usize, row: &Row, place: usize) -> bool
+pub fn is_too_long_at(columns: &[Column], number: usize, row: &Row, place: usize) -> bool
     ensures { result ≡ too_long (slice_index_or (map column_of columns.now) number no_column).limit
         (cell row.now place) }
 {
@@ -78,7 +78,7 @@ pub(crate) fn is_too_long_at(columns: &[Column], number: usize, row: &Row, place
 }
 
 /// Whether a cell is NULL and the column of this number is NOT NULL.
-pub(crate) fn is_lacking_at(columns: &[Column], number: usize, row: &Row, place: usize) -> bool
+pub fn is_lacking_at(columns: &[Column], number: usize, row: &Row, place: usize) -> bool
     ensures { result ≡ (slice_index_or (map column_of columns.now) number no_column).required
         && is_null (cell row.now place) }
 {
@@ -115,7 +115,7 @@ fn lacks_a_value(columns: &[Column], stored: &[usize], row: &Row) -> bool
 }
 
 /// Whether both values are not NULL, and the end is not after the start.
-pub(crate) fn falls(start: View<'_>, end: View<'_>) -> bool
+pub fn falls(start: View<'_>, end: View<'_>) -> bool
     ensures { result ≡ falling (datum_of_view start.entry) (datum_of_view end.entry) }
 {
     !start.is_null() && !end.is_null() && point(end) <= point(start)

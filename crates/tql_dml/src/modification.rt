@@ -41,7 +41,7 @@ use tql_versions::readings::if_open;
 use tql_versions::version::{HIGH, Version};
 
 /// The effect of a change so far: the ids of the removed versions, and the added rows as stored cells.
-pub(crate) struct Changed {
+pub struct Changed {
     removed: Vec<usize, Memory>,
     added: Vec<Row, Memory>,
 }
@@ -72,7 +72,7 @@ impl Changed {
     }
 
     /// Returns the added rows.
-    pub(crate) fn into_added(self) -> Vec<Row, Memory>
+    pub fn into_added(self) -> Vec<Row, Memory>
         ensures { result.items ≡ self.added.items }
     {
         let Changed { removed: _, added } = self;
@@ -186,7 +186,7 @@ fn add_version(
 }
 
 /// Returns the effect on these versions.
-pub(crate) fn changes(
+pub fn changes(
     memory: Memory,
     definition: &TableDef,
     modification: &Modification,

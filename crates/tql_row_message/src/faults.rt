@@ -6,8 +6,8 @@ use tql_bind_message::names::push_column;
 use tql_catalog::table_def::TableDef;
 use tql_detail::detail::Detail;
 use tql_detail::shown::{Words, push_shown};
-use tql_dml::failures::Failed;
 use tql_memory::Memory;
+use tql_new_rows::failures::Failed;
 
 /// Appends the type of a column for whose texts there is a limit: `VARCHAR(20)`.
 fn push_limit(words: &mut Words, definition: &TableDef, column: usize) -> Result<(), AllocError> {

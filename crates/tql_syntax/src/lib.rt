@@ -3,6 +3,5 @@
 
 pub mod ending;
 pub mod parse;
-mod statements;
 pub mod stop;
 pub mod text;

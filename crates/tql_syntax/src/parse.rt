@@ -5,10 +5,10 @@ ghost use Rattle.tql_lex.specs.Tokens.{token_of};
 ghost use Rattle.tql_syntax.specs.Nesting.{open_behind};
 ghost use Rattle.tql_syntax.specs.Parses.{Parses, Spells};
 
-use crate::statements::statement_tree;
 use tql_lex::token::{Symbol, Token, TokenKind};
 use tql_memory::Memory;
 use tql_syntax_expr::cursor::Cursor;
+use tql_syntax_statement::statements::statement_tree;
 use tql_syntax_tree::tree::Tree;
 use tql_syntax_tree::width::is_too_wide;
 use tql_value::refusal::Refusal;

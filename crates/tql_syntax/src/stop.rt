@@ -3,11 +3,11 @@ ghost use Rattle.std.specs.Prelude.{◌≤◌, length, IfSome};
 ghost use Rattle.tql_syntax.specs.Stops.{IsStopIn};
 
 use crate::parse::shallow_count;
-use crate::statements::statement_tree;
 use tql_lex::front::{FrontTokens, front_tokens};
 use tql_lex::token::Token;
 use tql_memory::Memory;
 use tql_syntax_expr::cursor::{Cursor, ParseError};
+use tql_syntax_statement::statements::statement_tree;
 
 /// The tokens of a text up to the first byte at which none begins, and the number of them before the stop. `is_deep`
 /// says whether the next one is the `(` that makes 65 parentheses open at once.

@@ -1,5 +1,6 @@
-//! Parsing CREATE TABLE, DROP TABLE, INSERT, UPDATE and DELETE.
+//! Parsing statements: CREATE TABLE, DROP TABLE, INSERT, UPDATE, DELETE and all others but queries.
 #![tactic(auto)]
 
 pub mod changes;
 pub mod creates;
+pub mod statements;

@@ -3,9 +3,9 @@ ghost use Rattle.std.specs.Prelude.{◌≡◌, ◌<◌, length, slice_get, Some}
 
 use crate::held::Held;
 use tql_bound::change::{Insertion, Modification, QueryInsertion};
-use tql_dml::insertion::{insert_rows, insert_tuples};
 use tql_dml::modification::{modify, modify_current};
 use tql_index::index::IntervalIndex;
+use tql_new_rows::insertion::{insert_rows, insert_tuples};
 use tql_plan_access::choosing::change_access;
 use tql_store::store::Delta;
 use tql_value::refusal::Refusal;

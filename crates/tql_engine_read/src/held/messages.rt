@@ -13,13 +13,13 @@ use tql_bound::change::{Insertion, Modification, QueryInsertion};
 use tql_bound::query::BoundQuery;
 use tql_catalog::catalog::Table;
 use tql_detail::detail::Detail;
-use tql_dml::failures::{
-    first_failed_value, first_failure, inserted_rows, modified_rows, tuple_rows,
-};
 use tql_expr::row::Row;
 use tql_index::index::IntervalIndex;
 use tql_key_failures::failures::{RowRef, failed_key, failed_reference};
 use tql_memory::Memory;
+use tql_new_rows::failures::{
+    first_failed_value, first_failure, inserted_rows, modified_rows, tuple_rows,
+};
 use tql_plan_access::choosing::change_access;
 use tql_row_message::calculations::{change_detail, query_detail};
 use tql_row_message::cells::{Cells, Subject};

@@ -1,9 +1,0 @@
-use Rattle.tql_dml.proofs.insertion.insert_rows.Goals as goal
-
-pub returns-clause-alters : goal.returns-clause-alters
-returns-clause-alters c =
-    c.adding.ensures.alters c.args.columns.now c.args.rows.items c.in_ok-added.ensures.rows
-
-pub returns-clause-fits : goal.returns-clause-fits
-returns-clause-fits c =
-    c.adding.ensures.fits c.args.columns.now c.args.rows.items c.in_ok-added.ensures.rows c.requires
