@@ -3,10 +3,11 @@
 //! prints the tables and the kinds of a query's columns, and puts values into a statement.
 #![tactic(auto)]
 
+use std::alloc::AllocError;
 use std::io;
 use tql::{
-    Engine, Kind, Memory, Notes, Reply, ResultTable, SliceSource, TableDef, VecSink, View,
-    date_text, is_day, literal, memory_within, read_date, run,
+    Engine, Fault, Kind, Memory, Notes, Reply, ResultTable, SliceSource, Summary, TableDef,
+    VecSink, View, date_text, is_day, is_printable, literal, memory_within, read_date, run,
 };
 
 /// The maximal number of bytes of memory that the engine may have in use.
@@ -41,9 +42,9 @@ fn total(table: &ResultTable, column: usize) -> i64 {
     total
 }
 
-/// Prints the number of rows that a query returns, and the sum of their cents.
-fn ask(rt: &impl Print, engine: &mut Engine, question: &[u8]) -> io::Result<()> {
-    match &engine.step(question) {
+/// Prints a reply: the number of the rows that a query returns, and the sum of their cents.
+fn print_reply(rt: &impl Print, reply: &Reply) -> io::Result<()> {
+    match reply {
         Reply::Table(table) => println!(rt;
             "{} payments, {} cents",
             table.rows.len(),
@@ -54,8 +55,22 @@ fn ask(rt: &impl Print, engine: &mut Engine, question: &[u8]) -> io::Result<()> 
     }
 }
 
+/// Asks a question, and prints the reply.
+fn ask(rt: &impl Print, engine: &mut Engine, question: &[u8]) -> io::Result<()> {
+    print_reply(rt, &engine.step(question))
+}
+
+/// Prints each refused statement: its number, its line and the refusal.
+fn print_notes(rt: &impl Print, notes: &Notes) -> io::Result<()> {
+    for note in &notes.kept {
+        let text = note.refusal.text();
+        println!(rt; "statement {}, line {}: {text}", note.statement, note.line)?;
+    }
+    Ok(())
+}
+
 /// Prints the detail of each refusal: what is wrong, and the hint.
-fn say_details(rt: &impl Print, notes: &Notes) -> io::Result<()> {
+fn print_details(rt: &impl Print, notes: &Notes) -> io::Result<()> {
     for told in &notes.told {
         let words = told.detail.words.as_str();
         let hint = match &told.detail.hint {
@@ -67,17 +82,10 @@ fn say_details(rt: &impl Print, notes: &Notes) -> io::Result<()> {
     Ok(())
 }
 
-/// Runs the script, and prints the refused statements and the number of all statements.
-fn enter(rt: &impl Print, memory: Memory, engine: &mut Engine) -> io::Result<()> {
-    let mut source = SliceSource::new(ENTERED);
-    let mut sink = VecSink::new(Vec::new(memory));
-    let mut notes = Notes::new(memory);
-    let end = run(engine, &mut source, &mut sink, &mut notes);
-    for note in &notes.kept {
-        let text = note.refusal.text();
-        println!(rt; "statement {}, line {}: {text}", note.statement, note.line)?;
-    }
-    say_details(rt, &notes)?;
+/// Prints the refused statements, and how the run ended.
+fn print_run(rt: &impl Print, notes: &Notes, end: Result<Summary, Fault>) -> io::Result<()> {
+    print_notes(rt, notes)?;
+    print_details(rt, notes)?;
     match end {
         Ok(summary) => {
             println!(rt;
@@ -87,6 +95,20 @@ fn enter(rt: &impl Print, memory: Memory, engine: &mut Engine) -> io::Result<()>
         }
         Err(_) => println!(rt; "out of memory"),
     }
+}
+
+/// Runs the script, and notes the refused statements.
+fn run_script(memory: Memory, engine: &mut Engine, notes: &mut Notes) -> Result<Summary, Fault> {
+    let mut source = SliceSource::new(ENTERED);
+    let mut sink = VecSink::new(Vec::new(memory));
+    run(engine, &mut source, &mut sink, notes)
+}
+
+/// Runs the script, and prints the refused statements and the number of all statements.
+fn enter(rt: &impl Print, memory: Memory, engine: &mut Engine) -> io::Result<()> {
+    let mut notes = Notes::new(memory);
+    let end = run_script(memory, engine, &mut notes);
+    print_run(rt, &notes, end)
 }
 
 /// Returns the name of a kind.
@@ -118,22 +140,56 @@ fn print_tables(rt: &impl Print, engine: &Engine) -> io::Result<()> {
     Ok(())
 }
 
+/// Prints kinds of columns.
+fn print_each(rt: &impl Print, kinds: &[Kind]) -> io::Result<()> {
+    print!(rt; "kinds:")?;
+    for kind in kinds {
+        print!(rt; " {}", kind_name(*kind))?;
+    }
+    println!(rt; "")
+}
+
 /// Prints the kinds of a query's columns.
 fn print_kinds(rt: &impl Print, engine: &Engine, question: &[u8]) -> io::Result<()> {
     match &engine.column_kinds(question) {
-        Ok(Some(kinds)) => {
-            print!(rt; "kinds:")?;
-            for kind in kinds {
-                print!(rt; " {}", kind_name(*kind))?;
-            }
-            println!(rt; "")
-        }
+        Ok(Some(kinds)) => print_each(rt, kinds),
         Ok(None) => println!(rt; "no question"),
         Err(refusal) => println!(rt; "refused: {}", refusal.text()),
     }
 }
 
-/// Inserts a note of a day. The words become a literal of the statement, whatever characters they contain.
+/// Appends the literal of a value to a statement. A day or a moment outside of the calendar has none.
+fn push_literal(statement: &mut String<Memory>, value: View<'_>) -> Result<(), AllocError> {
+    if !is_printable(value) {
+        return Ok(());
+    }
+    let text = literal(*statement.allocator(), value)?;
+    statement.push_str(text.as_str())
+}
+
+/// Appends a note of a day to an INSERT. The words become a literal, whatever characters they contain.
+fn push_note(statement: &mut String<Memory>, day: View<'_>, words: &str) -> Result<(), AllocError> {
+    statement.push_str("INSERT INTO notes VALUES (")?;
+    push_literal(statement, day)?;
+    statement.push_str(", ")?;
+    push_literal(statement, View::Text(words))?;
+    statement.push_str(")")
+}
+
+/// Prints a statement, or why it is refused.
+fn print_entry(rt: &impl Print, statement: &str, reply: &Reply) -> io::Result<()> {
+    match reply {
+        Reply::Refused(refusal) => println!(rt; "refused: {}", refusal.text()),
+        Reply::Done(_, _) | Reply::Table(_) => println!(rt; "{statement}"),
+    }
+}
+
+/// Runs a statement, and prints it.
+fn enter_statement(rt: &impl Print, engine: &mut Engine, statement: &str) -> io::Result<()> {
+    print_entry(rt, statement, &engine.step(statement.as_bytes()))
+}
+
+/// Inserts a note of a day.
 fn enter_note(
     rt: &impl Print,
     memory: Memory,
@@ -144,29 +200,36 @@ fn enter_note(
     let Some(day) = read_date(day) else {
         return println!(rt; "no day: {day}");
     };
-    let mut statement = String::from_str(memory, "INSERT INTO notes VALUES (")?;
-    statement.push_str(literal(memory, View::Day(day))?.as_str())?;
-    statement.push_str(", ")?;
-    statement.push_str(literal(memory, View::Text(words))?.as_str())?;
-    statement.push_str(")")?;
-    match &engine.step(statement.as_bytes()) {
-        Reply::Refused(refusal) => println!(rt; "refused: {}", refusal.text()),
-        Reply::Done(_, _) | Reply::Table(_) => println!(rt; "{}", statement.as_str()),
-    }
+    let mut statement = String::new(memory);
+    push_note(&mut statement, View::Day(day), words)?;
+    enter_statement(rt, engine, statement.as_str())
 }
 
-/// Prints the days of the notes.
-fn print_days(rt: &impl Print, memory: Memory, engine: &mut Engine) -> io::Result<()> {
-    if let Reply::Table(table) = &engine.step(b"SELECT day FROM notes") {
-        for row in &table.rows {
-            if let Some(View::Day(day)) = row.get(0).map(|value| value.view()) {
-                if is_day(day) {
-                    println!(rt; "{}", date_text(memory, day)?.as_str())?;
-                }
-            }
+/// Prints a day, if it is one.
+fn print_day(rt: &impl Print, memory: Memory, day: i64) -> io::Result<()> {
+    if !is_day(day) {
+        return Ok(());
+    }
+    let text = date_text(memory, day)?;
+    println!(rt; "{}", text.as_str())
+}
+
+/// Prints the days in the first column of a table.
+fn print_days(rt: &impl Print, memory: Memory, table: &ResultTable) -> io::Result<()> {
+    for row in &table.rows {
+        if let Some(View::Day(day)) = row.get(0).map(|value| value.view()) {
+            print_day(rt, memory, day)?;
         }
     }
     Ok(())
+}
+
+/// Prints the days of the notes.
+fn ask_days(rt: &impl Print, memory: Memory, engine: &mut Engine) -> io::Result<()> {
+    match &engine.step(b"SELECT day FROM notes") {
+        Reply::Table(table) => print_days(rt, memory, table),
+        Reply::Refused(_) | Reply::Done(_, _) => Ok(()),
+    }
 }
 
 fn main(rt: HostRuntime) -> io::Result<()> {
@@ -190,5 +253,5 @@ fn main(rt: HostRuntime) -> io::Result<()> {
         "2011-04-04",
         "O'Hara's books; settled -- so far",
     )?;
-    print_days(&rt, memory, &mut engine)
+    ask_days(&rt, memory, &mut engine)
 }
