@@ -118,6 +118,11 @@ each_ended f all old bound now l = record {
 pub sound_here : {B : Type 0} (x : B) (now : Option Refusal) → Gathers (sound x) now now x
 sound_here x now = record { value = refl; least = sym (after_nil now) }
 
+-- nothing follows
+pub alone : {B : Type 0} (c : Checked B) (old now : Option Refusal) (x : B) → Gathers c old now x
+    → Gathers (c >>= sound) old now x
+alone c old now x g = bound c sound old now now x x g (sound_here x now)
+
 -- for `grind`
 pub ruleset gathering = (after_nil, after_append)
 

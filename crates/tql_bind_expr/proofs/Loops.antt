@@ -29,8 +29,8 @@ use Rattle.tql_bind_expr.specs.declared.chain.Chain.{Chain}
 use Rattle.tql_bind_expr.specs.declared.scope.Typed as code
 use Rattle.tql_bind_expr.proofs.Arena.{stays_along}
 use Rattle.tql_bind_expr.proofs.ChainLaws.{chain_kept, chain_there}
-use Rattle.tql_bind_expr.proofs.Gathering.{Leads, begun, gone_on, bound, bound_ok, ended, unless_asked, next_item}
-use Rattle.tql_bind_expr.proofs.Gathering.{no_item}
+use Rattle.tql_bind_expr.proofs.Gathering.{Leads, alone, begun, gone_on, bound, bound_ok, ended, unless_asked}
+use Rattle.tql_bind_expr.proofs.Gathering.{next_item, no_item}
 use Rattle.tql_bind_expr.proofs.Views.{expr_out, added_out, term_out, signed_out}
 
 -- ---- the operations bound so far
@@ -124,6 +124,22 @@ term_step : (s : List Known) (b : Bool) (p : tree.Product) (rest : tree.MoreTerm
 term_step s true p rest a = refl
 term_step s false p rest a = refl
 
+-- a list without elements
+no_elements : {X : Type 0} (xs : List X) → length xs ≡ 0 → xs ≡ []
+no_elements [] e = refl
+no_elements (x ∷ xs) e = absurd (omega arith)
+
+-- a sum of one term
+pub sum_alone : {A : Type 0} (s : List Known) (e : ExprIn A) (old now : Option Refusal) (x : Typed)
+    → length (out-ExprIn A e).more.items ≡ 0
+    → Gathers (product s (term_of (out-ExprIn A e).first)) old now x → Gathers (expr s (expr_of e)) old now x
+sum_alone {A} s e old now x none g =
+    let t = term_of (out-ExprIn A e).first in
+    subst (λ (y : tree.Sum). Gathers (expr s y) old now x)
+    (sym (expr_out e ∙ ap (λ (xs : List (AddedTermIn A)). Terms t (terms_of (map added_of xs)))
+    (no_elements _ none)))
+    (alone (product s t) old now x g)
+
 pub sum_begun : {A : Type 0} (s : List Known) (e : ExprIn A) (xs : List (AddedTermIn A)) (start t : arena.Terms)
     (old now : Option Refusal) (b : code.Typed) (c : Chain)
     → xs ≡ (out-ExprIn A e).more.items → Stays start t
@@ -179,6 +195,17 @@ sum_done {A} s whole start old t u c now xs i r past l is =
 -- the remaining factors, applied to the product so far
 abbrev pub factors_left : {A : Type 0} → List Known → List (SignedIn A) → Typed → Checked Typed
 factors_left s xs a = more_factors s (factors_of (map signed_of xs)) a
+
+-- a product of one factor
+pub product_alone : {A : Type 0} (s : List Known) (t : TermIn A) (old now : Option Refusal) (x : Typed)
+    → length (out-TermIn A t).more.items ≡ 0
+    → Gathers (signed s (signed_of (out-TermIn A t).first)) old now x → Gathers (product s (term_of t)) old now x
+product_alone {A} s t old now x none g =
+    let f = signed_of (out-TermIn A t).first in
+    subst (λ (y : tree.Product). Gathers (product s y) old now x)
+    (sym (term_out t ∙ ap (λ (xs : List (SignedIn A)). Factors f (factors_of (map signed_of xs)))
+    (no_elements _ none)))
+    (alone (signed s f) old now x g)
 
 pub product_begun : {A : Type 0} (s : List Known) (e : TermIn A) (xs : List (SignedIn A)) (start t : arena.Terms)
     (old now : Option Refusal) (b : code.Typed) (c : Chain)

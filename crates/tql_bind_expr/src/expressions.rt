@@ -157,6 +157,9 @@ pub fn sum(
     ensures held { IfOk result (λ t. HasExpr terms.new t.expr) }
 {
     let first = product(memory, scope, &sum.first, terms, faults)?;
+    if sum.more.is_empty() {
+        return Ok(first);
+    }
     let mut chain = Chain::new(memory, first);
     for added in &sum.more {
         let right = product(memory, scope, &added.term, terms, faults)?;
@@ -182,6 +185,9 @@ fn product(
     ensures held { IfOk result (λ t. HasExpr terms.new t.expr) }
 {
     let first = signed(memory, scope, &product.first, terms, faults)?;
+    if product.more.is_empty() {
+        return Ok(first);
+    }
     let mut chain = Chain::new(memory, first);
     for factor in &product.more {
         let right = signed(memory, scope, factor, terms, faults)?;

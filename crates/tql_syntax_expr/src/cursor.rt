@@ -3,7 +3,8 @@ ghost use Rattle.std.specs.Prelude.{◌≡◌, map, length, option_map};
 ghost use Rattle.tql_spec.specs.Token as spec;
 ghost use Rattle.tql_lex.specs.Tokens.{token_of, symbol_of};
 ghost use Rattle.tql_syntax_grammar.specs.Outcome.{eat, expect, name_at, number_at, quote_at, eat_number, eat_quote};
-ghost use Rattle.tql_syntax_expr.specs.Parsing.{Reads, nothing};
+ghost use Rattle.tql_syntax_expr.specs.Alone.{goes_on, goes_on_second, goes_on_third};
+ghost use Rattle.tql_syntax_expr.specs.Parsing.{Reads, Eats, nothing};
 ghost use Rattle.tql_syntax_tree.specs.Expressions.{name_of, digits_of, content_of};
 ghost use Rattle.tql_syntax_grammar.specs.Outcome as spec_of;
 
@@ -65,6 +66,16 @@ fn is_name(token: &Token<'_>) -> bool
         TokenKind::QuotedName => true,
         _ => false,
     }
+}
+
+/// Whether an expression does not end before the token: it is `.`, `*`, `+` or `-`.
+fn goes_on(token: &Token<'_>) -> bool
+    ensures { result ≡ goes_on (token_of token.now) }
+{
+    matches!(
+        token.kind,
+        TokenKind::Sign(Symbol::Dot | Symbol::Star | Symbol::PlusSign | Symbol::MinusSign)
+    )
 }
 
 /// Returns the byte offset of a token in the statement's text. A statement has at most 2^20 bytes, so the offset fits;
@@ -165,15 +176,15 @@ impl<'t, 'a> Cursor<'t, 'a> {
         }
     }
 
-    /// Consumes a name and returns it: a word that is not reserved, or a quoted name. Fails if none is next.
+    /// Consumes a name if one is next, and returns it: a word that is not reserved, or a quoted name.
     #[tactic(auto, unfolding(tql_syntax_grammar::specs::Outcome::name_at))]
-    pub fn name(&mut self) -> Result<Name<'a>, ParseError>
-        ensures { Reads name_of (name_at self.old) result self.new }
+    pub fn eat_name(&mut self) -> Option<Name<'a>>
+        ensures { Eats name_of name_at self.old result self.new }
     {
         match self.rest {
             [first, rest @ ..] if matches!(first.kind, TokenKind::Word) && !first.is_reserved() => {
                 self.rest = rest;
-                Ok(Name {
+                Some(Name {
                     text: first.text,
                     is_quoted: false,
                     start: offset_of(first),
@@ -181,13 +192,23 @@ impl<'t, 'a> Cursor<'t, 'a> {
             }
             [first, rest @ ..] if matches!(first.kind, TokenKind::QuotedName) => {
                 self.rest = rest;
-                Ok(Name {
+                Some(Name {
                     text: first.text,
                     is_quoted: true,
                     start: offset_of(first),
                 })
             }
-            _ => Err(ParseError::NotInGrammar),
+            _ => None,
+        }
+    }
+
+    /// Consumes a name and returns it: a word that is not reserved, or a quoted name. Fails if none is next.
+    pub fn name(&mut self) -> Result<Name<'a>, ParseError>
+        ensures { Reads name_of (name_at self.old) result self.new }
+    {
+        match self.eat_name() {
+            Some(name) => Ok(name),
+            None => Err(ParseError::NotInGrammar),
         }
     }
 
@@ -265,6 +286,26 @@ impl<'t, 'a> Cursor<'t, 'a> {
     {
         match self.rest {
             [_, _, third, ..] => third.is_word(word),
+            _ => false,
+        }
+    }
+
+    /// Whether an expression does not end before the second token from here: it is `.`, `*`, `+` or `-`.
+    pub fn goes_on_second(&self) -> bool
+        ensures { result ≡ goes_on_second self.now }
+    {
+        match self.rest {
+            [_, second, ..] => goes_on(second),
+            _ => false,
+        }
+    }
+
+    /// Whether an expression does not end before the third token from here.
+    pub fn goes_on_third(&self) -> bool
+        ensures { result ≡ goes_on_third self.now }
+    {
+        match self.rest {
+            [_, _, third, ..] => goes_on(third),
             _ => false,
         }
     }

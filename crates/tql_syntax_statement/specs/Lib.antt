@@ -1,2 +1,3 @@
-pub mod CreateEnds
+pub mod Cells
 pub mod ChangeEnds
+pub mod CreateEnds

@@ -1,8 +1,9 @@
 //! Parsing INSERT, UPDATE and DELETE.
-ghost use Rattle.std.specs.Prelude.{List, option_map};
+ghost use Rattle.std.specs.Prelude.{◌≡◌, List, option_map};
 ghost use Rattle.tql_syntax_grammar.specs.Outcome.{name_at};
 ghost use Rattle.tql_syntax_grammar.specs.ReadingStatements as reading;
-ghost use Rattle.tql_syntax_expr.specs.Parsing.{Reads};
+ghost use Rattle.tql_syntax_expr.specs.Parsing.{Reads, Takes};
+ghost use Rattle.tql_syntax_statement.specs.Cells.{begins_date, date_cell};
 ghost use Rattle.tql_syntax_statement.specs.ChangeEnds as ends;
 ghost use Rattle.tql_spec.specs.Definition as definition;
 ghost use Rattle.tql_spec.specs.Syntax as tree;
@@ -24,6 +25,40 @@ use tql_syntax_tree::statement::{
     boxed_delete, boxed_insert, boxed_update,
 };
 
+/// Parses a number or a text that is a cell by itself, if one is next.
+fn lone_literal<'a>(tokens: &mut Cursor<'_, 'a>) -> Option<CellTree<'a>>
+    ensures { Takes cell_of reading.cell_at tokens.old result tokens.new }
+{
+    let start = tokens.start();
+    if tokens.goes_on_second() {
+        return None;
+    }
+    if let Some(digits) = tokens.eat_number() {
+        return Some(CellTree::Number(digits, start));
+    }
+    match tokens.eat_quote() {
+        Some(text) => Some(CellTree::Text(text, start)),
+        None => None,
+    }
+}
+
+/// Whether the next cell begins with DATE, and its expression does not go on behind the text after it.
+fn begins_date(tokens: &Cursor<'_, '_>) -> bool
+    ensures { result ≡ begins_date tokens.now }
+{
+    tokens.begins_word("DATE") && !tokens.goes_on_third()
+}
+
+/// Parses a DATE literal that is a cell by itself.
+fn date<'a>(tokens: &mut Cursor<'_, 'a>) -> Result<CellTree<'a>, ParseError>
+    ensures { Reads cell_of (date_cell tokens.old) result tokens.new }
+{
+    let start = tokens.start();
+    tokens.expect_word("DATE")?;
+    let text = tokens.quote()?;
+    Ok(CellTree::Date(text, start))
+}
+
 /// The rule for a cell of VALUES or SET.
 struct CellRule;
 
@@ -42,6 +77,12 @@ impl<'a> Rule<'a, Memory> for CellRule {
         memory: Memory,
         tokens: &mut Cursor<'_, 'a>,
     ) -> Result<CellTree<'a>, ParseError> {
+        if let Some(literal) = lone_literal(tokens) {
+            return Ok(literal);
+        }
+        if begins_date(tokens) {
+            return date(tokens);
+        }
         if tokens.eat_word("NULL") {
             return Ok(CellTree::Null);
         }

@@ -37,7 +37,7 @@ use Rattle.tql_syntax_tree.specs.declared.statement.KeyName.TheVariants.{Heading
 use Rattle.tql_syntax_tree.specs.declared.statement.OrderTree.{OrderTree}
 use Rattle.tql_syntax_tree.specs.declared.statement.Query.{Query}
 use Rattle.tql_syntax_tree.specs.declared.statement.CellTree.{CellTree}
-use Rattle.tql_syntax_tree.specs.declared.statement.CellTree.TheVariants.{Null, Value}
+use Rattle.tql_syntax_tree.specs.declared.statement.CellTree.TheVariants as cell
 use Rattle.tql_syntax_tree.specs.declared.statement.Tuple.{Tuple}
 use Rattle.tql_syntax_tree.specs.declared.statement.RowSource.{RowSource}
 use Rattle.tql_syntax_tree.specs.declared.statement.RowSource.TheVariants as rows
@@ -198,9 +198,16 @@ read_of n q = tree.ReadTree (name_of n) (boxed_select_of q.select) (orders_of q.
 
 -- ---- changes
 
+-- the cell that is this literal alone
+abbrev pub literal_cell : tree.Primary → tree.CellTree
+literal_cell p = tree.ValueCell (tree.Terms (tree.Factors (tree.Unsigned p) tree.NoFactor) tree.NoTerm)
+
 abbrev pub cell_of : CellTree → tree.CellTree
-cell_of Null = tree.NullCell
-cell_of (Value e) = tree.ValueCell (boxed_expr_of e)
+cell_of cell.Null = tree.NullCell
+cell_of (cell.Number ds _) = literal_cell (tree.NumberLiteral (digits_of ds))
+cell_of (cell.Text t _) = literal_cell (tree.TextLiteral (content_of t))
+cell_of (cell.Date t _) = literal_cell (tree.DateLiteral (content_of t))
+cell_of (cell.Value e) = tree.ValueCell (boxed_expr_of e)
 
 -- the cells of a list
 abbrev pub cells_of : {B : Type 0} → Vec CellTree B → List tree.CellTree

@@ -282,16 +282,21 @@ impl<'a> Drop for Query<'a> {
     }
 }
 
-/// A cell of VALUES or SET.
+/// A cell of VALUES or SET. A literal without a sign that is a cell by itself is kept without a box, with its byte
+/// offset in the statement's text.
 pub enum CellTree<'a> {
     Null,
+    Number(&'a str, u32),
+    Text(&'a str, u32),
+    Date(&'a str, u32),
     Value(Box<Expr<'a>, Memory>),
 }
 
 impl<'a> Drop for CellTree<'a> {
     fn drop(self) {
         match self {
-            CellTree::Null => {}
+            CellTree::Null | CellTree::Number(_, _) | CellTree::Text(_, _) | CellTree::Date(_, _) =>
+                {}
             CellTree::Value(value) => drop(value),
         }
     }
