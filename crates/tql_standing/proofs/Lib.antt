@@ -3,3 +3,4 @@ pub mod Entering
 pub mod RowsStanding
 pub mod Steps
 pub mod Sweeping
+pub mod Reordering

@@ -1,1 +1,2 @@
 pub mod RowsStanding
+pub mod Reordering

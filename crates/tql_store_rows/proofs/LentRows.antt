@@ -23,6 +23,7 @@ use Rattle.tql_store_rows.specs.Loans.{AllStand, AreLent, AreListed, AreMore, Ar
 use Rattle.tql_standing.specs.RowsStanding.{AreHeld, AreStanding, IsShut, IsShutAt, all_of, held_of, past_rows}
 use Rattle.tql_standing.specs.RowsStanding.{rows_of}
 use Rattle.tql_store_rows.specs.declared.borrowing.Loan.{Loan}
+use Rattle.tql_versions.specs.Heap.{AreInHeap}
 use Rattle.tql_versions.specs.Changes.{closing, ended, fresh, is_current, nothing}
 use Rattle.tql_versions.specs.Places.{version_at}
 use Rattle.tql_versions.specs.Views.{versions_of}
@@ -158,8 +159,8 @@ shut_changed m removed places from old loans vs new rows low made shut more list
 pub free_stand : (keeps : Bool) (s t : Seating) (indexes past : List ValueIndex) (current : List Version)
     (ended : List ℕ) (closed : List Version) (base : ℕ) (dead : List ℕ) (loans : List Loan) → loans ≡ []
     → AreStanding s indexes (rows_of current) → AreStanding t past (past_rows keeps current ended closed)
-    → All (λ k. base ≤ k) dead → AllStand keeps s indexes t past current ended closed base dead loans
-free_stand keeps s t indexes past current ended closed base dead loans free h i low = record {
+    → All (λ k. base ≤ k) dead → AreInHeap closed → AllStand keeps s indexes t past current ended closed base dead loans
+free_stand keeps s t indexes past current ended closed base dead loans free h i low heap = record {
   current_ones = subst (λ (ls : List Loan). AreLent base ls s indexes (rows_of current)) (sym free)
       (lent_none base s indexes (rows_of current) h);
   past_ones = i;
@@ -167,6 +168,7 @@ free_stand keeps s t indexes past current ended closed base dead loans free h i 
   shut = λ l m. absurd (subst (In l) free m);
   listed = λ l m. absurd (subst (In l) free m);
   settled = inr free;
+  in_heap = heap;
 }
 
 -- nothing is lent while versions are recorded as dead

@@ -13,11 +13,13 @@ use Rattle.tql_store_index.specs.Basis.{Filed, filed, stands_by}
 use Rattle.tql_store_index.specs.Seating.{Seating, AreGrown}
 use Rattle.tql_store_index.specs.ValueIndexes.{ValueIndex, index_at, Each, AreLoose, IsGrown, IsTurned}
 use Rattle.tql_standing.proofs.Counting.{times}
+use Rattle.tql_store_rows.proofs.Heaping.{none_in_heap}
 use Rattle.tql_store_rows.proofs.Numbering.{taken-is}
 use Rattle.tql_standing.proofs.RowsStanding.{standing_back, standing_less, standing_longer}
 use Rattle.tql_standing.proofs.RowsStanding.{standing_more, standing_nil, standing_none}
 use Rattle.tql_store_rows.proofs.Turns.{at-closing, length-closing}
 use Rattle.tql_versions.specs.Changes.{closing, ended, fresh, nothing, taken}
+use Rattle.tql_versions.specs.Heap.{AreInHeap}
 use Rattle.tql_versions.specs.Marks.{below, from}
 use Rattle.tql_store_rows.proofs.LentRows.{free_stand, listed_front, none_front, shut_front}
 use Rattle.tql_store_rows.specs.Loans.{AllStand, AreLent, AreListed, AreShut, IsFront}
@@ -233,7 +235,7 @@ none_stand keeps s t indexes past current closed ended base dead loans e f all a
     (subst (AreStanding t past) (sym (ap (λ is. past_rows keeps (versions_of current) is (versions_of closed)) nil
     ∙ ap (λ ks. past_rows keeps (versions_of current) [] (versions_of ks)) gone
     ∙ sym (past_alone_rows keeps (versions_of current) []))) (standing_none t past f all'))
-    (none_behind base dead empty)
+    (none_behind base dead empty) (none_in_heap (versions_of closed) (ap versions_of gone))
 
 -- the rows that a change ends follow those ended before, in terms of the versions before the change
 pub more_stand : (keeps : Bool) (n m : ℤ) (t : Seating) (past : List ValueIndex) (before versions : List Kept)
@@ -345,10 +347,10 @@ pub refused_stand : (keeps : Bool) (s t : Seating) (indexes past : List ValueInd
     → IsFront fewer loans → AreLent base fewer s indexes (rows_of (versions_of current))
     → AreStanding t past (past_rows keeps (versions_of before) ended (versions_of closed))
     → All (λ k. base ≤ k) dead → AreShut loans (versions_of before) → AreListed loans ended
-    → (dead ≡ []) ⊎ (loans ≡ [])
+    → (dead ≡ []) ⊎ (loans ≡ []) → AreInHeap (versions_of closed)
     → AllStand keeps s indexes t past (versions_of current) cut (versions_of later) base left fewer
 refused_stand keeps s t indexes past before current closed later ended cut base dead left loans fewer e f g same first
-    h i low shut listed settled = record {
+    h i low shut listed settled heap = record {
       behind = subst (All (λ k. base ≤ k)) (sym same) low;
       current_ones = h;
       past_ones = subst (AreStanding t past)
@@ -362,6 +364,7 @@ refused_stand keeps s t indexes past before current closed later ended cut base 
         | inl x ↦ inl (same ∙ x)
         | inr x ↦ inr (none_front loans fewer first x)
       ];
+      in_heap = subst (λ (ks : List Kept). AreInHeap (versions_of ks)) (sym f) heap;
     }
 
 -- cutting a list back to its old length restores it

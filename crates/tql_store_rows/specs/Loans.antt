@@ -13,6 +13,7 @@ use Rattle.tql_standing.specs.RowsStanding.{AreStanding, all_of, past_rows, rows
 use Rattle.tql_store_rows.specs.Wanted.{chosen_at, chosen_of}
 use Rattle.tql_store_rows.specs.declared.borrowing.Loan.{Loan}
 use Rattle.tql_value.specs.declared.when.When.{When}
+use Rattle.tql_versions.specs.Heap.{AreInHeap}
 use Rattle.tql_versions.specs.Places.{version_at}
 use Rattle.tql_versions.specs.Readings.{numbered}
 
@@ -120,7 +121,8 @@ abbrev pub AreListed : List Loan → List ℕ → Type 0
 AreListed loans ended = (l : Loan) → In l loans → count_by (λ j. nat_eq j l.lender) ended ≡ 1
 
 -- every current row is entered, but for the lenders, and every past one; the positions of versions that the open
--- transaction added and ended are not below the base, and there are none while there are lenders
+-- transaction added and ended are not below the base, and there are none while there are lenders; the closed versions
+-- are a heap
 pub record AllStand (keeps : Bool) (s : Seating) (indexes : List ValueIndex) (t : Seating) (past : List ValueIndex)
     (current : List Version) (ended : List ℕ) (closed : List Version) (base : ℕ) (dead : List ℕ)
     (loans : List Loan) : Type 0 where
@@ -130,6 +132,7 @@ pub record AllStand (keeps : Bool) (s : Seating) (indexes : List ValueIndex) (t 
   pub shut : AreShut loans current
   pub listed : AreListed loans ended
   pub settled : (dead ≡ []) ⊎ (loans ≡ [])
+  pub in_heap : AreInHeap closed
 
 -- the versions chosen among those at the positions found, or among all if there are none, are all that are chosen
 abbrev pub FindsAll : {A : Type 0} → When → Option Sought → List Version → Option (Vec ℕ A) → Type 0

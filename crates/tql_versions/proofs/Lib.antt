@@ -1,3 +1,4 @@
 pub mod Steps
 pub mod Sought
 pub mod Marking
+pub mod Heaps

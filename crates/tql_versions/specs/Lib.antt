@@ -3,3 +3,4 @@ pub mod Views
 pub mod Marks
 pub mod Places
 pub mod Readings
+pub mod Heap

@@ -2,6 +2,7 @@
 //! them.
 #![tactic(auto)]
 
+pub mod heap;
 pub mod horizon;
 pub mod kept;
 pub mod readings;

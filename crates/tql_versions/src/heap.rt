@@ -1,0 +1,53 @@
+//! Versions in a heap by their ends: the one that ends first is at position 0.
+ghost use Rattle.std.specs.Prelude.{◌≡◌, ◌<◌, ◌≤◌, ◌≤ℤ◌, ◌⊎◌, IfSome, IfNone, length};
+ghost use Rattle.tql_versions.specs.Heap.{EndsFirst, IsChild, IsFirstChild, IsSooner, end_at};
+ghost use Rattle.tql_versions.specs.Views.{versions_of};
+
+use crate::kept::Kept;
+
+/// Returns the one of two positions whose version ends first.
+fn sooner_of(versions: &[Kept], a: usize, b: usize) -> usize
+    requires a { a < length versions.now }
+    requires b { b < length versions.now }
+    ensures one { (result ≡ a) ⊎ (result ≡ b) }
+    ensures first { (end_at (versions_of versions.now) result ≤ℤ end_at (versions_of versions.now) a)
+        × (end_at (versions_of versions.now) result ≤ℤ end_at (versions_of versions.now) b) }
+{
+    if versions[b].end < versions[a].end {
+        b
+    } else {
+        a
+    }
+}
+
+/// Returns the child of a position that ends first, or `None` if the position has no child.
+fn first_child(versions: &[Kept], place: usize) -> Option<usize>
+    ensures some { IfSome result (IsFirstChild (versions_of versions.now) place) }
+    ensures none { IfNone result ((c : _) → IsChild place c → length versions.now ≤ c) }
+{
+    if versions.len() / 2 <= place {
+        return None;
+    }
+    let left = 2 * place + 1;
+    let right = left + 1;
+    if right < versions.len() {
+        Some(sooner_of(versions, left, right))
+    } else {
+        Some(left)
+    }
+}
+
+/// Returns the child of a position that ends first, if it ends before the version at the position.
+pub fn sooner_child(versions: &[Kept], place: usize) -> Option<usize>
+    ensures some { IfSome result (IsSooner (versions_of versions.now) place) }
+    ensures none { IfNone result (EndsFirst (versions_of versions.now) place) }
+{
+    let Some(child) = first_child(versions, place) else {
+        return None;
+    };
+    if versions[child].end < versions[place].end {
+        Some(child)
+    } else {
+        None
+    }
+}
