@@ -21,11 +21,21 @@ use tql_period::period::Period;
 ///
 /// The tree is ordered by the starts of the entries, and each branch knows the greatest end below it. The model of the
 /// index is the list of its entries.
-#[derive(Drop)]
 pub struct TreeIndex {
     memory: Memory,
     tree: Tree<Memory>,
     count: usize,
+}
+
+impl Drop for TreeIndex {
+    fn drop(self) {
+        let TreeIndex {
+            memory: _,
+            tree,
+            count: _,
+        } = self;
+        drop(tree);
+    }
 }
 
 impl Model for TreeIndex {
