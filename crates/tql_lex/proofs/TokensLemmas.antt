@@ -13,7 +13,7 @@ use Rattle.tql_lex.proofs.GapLemmas.{gap_before, all_skipped}
 
 -- ---- what is left of a list
 
-pub rest_left : (bytes used rest : List ℕ) (start : ℕ) → start ≤ length bytes → drop start bytes ≡ used ++ rest
+rest_left : (bytes used rest : List ℕ) (start : ℕ) → start ≤ length bytes → drop start bytes ≡ used ++ rest
     → drop (length bytes - length rest) bytes ≡ rest
 rest_left bytes used rest start le e =
     let behind : length bytes - length rest ≡ start + length used =

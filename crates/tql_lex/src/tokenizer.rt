@@ -11,6 +11,9 @@ use crate::token::Token;
 use tql_memory::Memory;
 use tql_value::refusal::Refusal;
 
+/// The number of tokens for which there is room from the start: that of a short statement.
+const USUAL_TOKENS: usize = 16;
+
 /// Returns the offset of the first byte, from `from` on, that is neither a blank nor in a comment, if there is one.
 pub(crate) fn next_start(text: &str, from: usize) -> Option<usize>
     requires { from ≤ length text.now }
@@ -52,7 +55,7 @@ pub fn tokens(memory: Memory, text: &str) -> Result<Vec<Token<'_>, Memory>, Refu
         → (ts : List token.Token) → AreTokens ts text.now → ⊥) }
     ensures reasons { IfErr result (λ e. (e ≡ Refusal.NotAStatement) ⊎ (e ≡ Refusal.OutOfMemory)) }
 {
-    let mut found = Vec::new(memory);
+    let mut found = Vec::with_capacity(memory, USUAL_TOKENS)?;
     let mut end = 0;
     while let Some(start) = next_start(text, end) {
         let Some(token) = token_at(text, start) else {
