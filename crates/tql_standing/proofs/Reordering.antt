@@ -5,7 +5,7 @@ use Rattle.std.specs.Prelude.{Option, None, IsPermutation}
 use Rattle.std.specs.List.{SwappedAt}
 use Rattle.std.proofs.lemmas.Bool.{cases_lt}
 use Rattle.std.proofs.lemmas.List.{get_or-map, get_or_past, length-map}
-use Rattle.std.proofs.lemmas.List.Sorted.{IsPermutation-map, IsPermutation-refl, IsPermutation-trans}
+use Rattle.std.proofs.lemmas.List.Sorted.{IsPermutation-map, IsPermutation-trans}
 use Rattle.tql_spec.specs.Definition.{Version}
 use Rattle.tql_spec.specs.Period.{Period}
 use Rattle.tql_store_index.specs.Basis.{Basis, stands_by}
@@ -104,9 +104,6 @@ linked_exchanged basis s t standing vs us a b la lb x swaps h = record {
     seats = swapped.even
 
 -- ---- orders
-
-pub same_order : (vs : List Version) (s : Seating) → AreReordered vs vs s s
-same_order vs s = record { same = IsPermutation-refl vs; standing = λ indexes h. h }
 
 -- two versions change places with their row slots, after other changes of the order
 pub one_exchanged : (first : List Version) (old new : List Kept) (q s t : Seating) (a b : ℕ) → a < length old

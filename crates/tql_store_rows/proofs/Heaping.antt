@@ -136,7 +136,7 @@ sunk_more first old new q s t p c sooner is swapped swaps h o = (
     within = let w = sooner.first.within in omega (arith, w, length-map old version_of)
 
     low : p < length old
-    low = elim sooner.first.child [ inl e ↦ omega (arith, e, within) | inr e ↦ omega (arith, e, within) ]
+    low = let e = sooner.first.child in omega (arith, e, within)
 
     x : AreExchanged p c (versions_of old) (versions_of new)
     x = exchanged old new p c low within (ap length is ∙ length-swap old p c) swapped

@@ -1,6 +1,6 @@
 -- Versions as a heap by their ends: what is first, and what a swap, a removal and new versions leave.
-use Rattle.std.proofs.Common.{◌≡◌, ◌≢◌, ℕ, zero, suc, ◌<◌, ◌≤◌, List, [], ◌∷◌, ◌++◌, get_or, length, refl, sym, ap}
-use Rattle.std.proofs.Common.{subst, ◌∙◌, arith, inl, inr}
+use Rattle.std.proofs.Common.{◌≡◌, ◌≢◌, ℕ, zero, suc, ◌+◌, ◌*◌, ◌/◌, ◌<◌, ◌≤◌, List, [], ◌∷◌, ◌++◌, get_or, length}
+use Rattle.std.proofs.Common.{refl, sym, ap, subst, ◌∙◌, arith, inl, inr}
 use Rattle.std.specs.Prelude.{ℤ, ◌<ℤ◌, ◌≤ℤ◌, ◌⊎◌, All}
 use Rattle.std.proofs.lemmas.Bool.{cases_lt}
 use Rattle.std.proofs.lemmas.Int.{ints}
@@ -48,10 +48,17 @@ no_sooner ks p c x y first read_x read_y l d is within =
     (first.first d is within)
   where
     below : (p < c) × (c < length ks)
-    below = let w = first.within in elim first.child [
-      | inl e ↦ (omega (arith, e), omega (arith, w, length-map ks version_of))
-      | inr e ↦ (omega (arith, e), omega (arith, w, length-map ks version_of))
-    ]
+    below = let w = first.within in let e = first.child in (
+      omega (arith, e),
+      omega (arith, w, length-map ks version_of),
+    )
+
+-- of some children, the first
+pub record IsFirstOf (ks : List Kept) (from to c : ℕ) : Type 0 where
+  pub low : from ≤ c
+  pub high : c < to
+  pub within : c < length ks
+  pub first : (d : ℕ) → from ≤ d → d < to → end_at (versions_of ks) c ≤ℤ end_at (versions_of ks) d
 
 -- ---- the first version
 
@@ -62,16 +69,7 @@ record HasParent (k : ℕ) : Type 0 where
   pub before : parent ≤ k
 
 has_parent : (k : ℕ) → HasParent k
-has_parent zero = record { parent = 0; is = inl refl; before = omega arith }
-has_parent (suc zero) = record { parent = 0; is = inr refl; before = omega arith }
-has_parent (suc (suc k)) =
-    let h = has_parent k in
-    let l = h.before in
-    record {
-      parent = suc h.parent;
-      is = elim h.is [ inl e ↦ inl (omega (arith, e)) | inr e ↦ inr (omega (arith, e)) ];
-      before = omega (arith, l);
-    }
+has_parent k = record { parent = k / 8; is = (omega arith, omega arith); before = omega arith }
 
 first_below : (vs : List Version) (n k : ℕ) → IsHeap vs → k ≤ n → k < length vs → end_at vs 0 ≤ℤ end_at vs k
 first_below vs n zero h m l = grind (arith, ints)
@@ -132,19 +130,13 @@ sunk vs us p c h s x = record {
     other k f g = ap (λ (w : Version). w.end) (x.others k f g)
 
     not_same : (j k : ℕ) → IsChild j k → k ≢ j
-    not_same j k is e = elim is [ inl a ↦ omega (arith, a, e) | inr a ↦ omega (arith, a, e) ]
+    not_same j k is e = omega (arith, is, e)
 
     one_parent : (j k l : ℕ) → IsChild j l → IsChild k l → j ≡ k
-    one_parent j k l a b = elim a [
-      | inl e ↦ elim b [ inl f ↦ omega (arith, e, f) | inr f ↦ omega (arith, e, f) ]
-      | inr e ↦ elim b [ inl f ↦ omega (arith, e, f) | inr f ↦ omega (arith, e, f) ]
-    ]
+    one_parent j k l a b = omega (arith, a, b)
 
     below : (j k l : ℕ) → IsChild j k → IsChild k l → l ≡ j → ⊥
-    below j k l a b e = elim a [
-      | inl f ↦ elim b [ inl g ↦ omega (arith, e, f, g) | inr g ↦ omega (arith, e, f, g) ]
-      | inr f ↦ elim b [ inl g ↦ omega (arith, e, f, g) | inr g ↦ omega (arith, e, f, g) ]
-    ]
+    below j k l a b e = omega (arith, a, b, e)
 
 -- once no child ends before the version, all are in order
 pub settled : (vs : List Version) (p : ℕ) → IsHeapBut p vs → EndsFirst vs p → IsHeap vs
@@ -155,18 +147,18 @@ pub front_taken : (vs us : List Version) → IsHeap vs → length us ≤ length 
     → ((k : ℕ) → k ≢ 0 → k < length us → version_at us k ≡ version_at vs k) → IsHeapBut 0 us
 front_taken vs us h size same = record {
   others = λ p f c is l.
-      let up : p < c = elim is [ inl e ↦ omega (arith, e) | inr e ↦ omega (arith, e) ] in
+      let up : p < c = omega (arith, is) in
       moved (end_at us p) (end_at vs p) (end_at us c) (end_at vs c)
       (ap (λ (w : Version). w.end) (same p f (omega (arith, up, l))))
       (ap (λ (w : Version). w.end) (same c (λ z. omega (arith, z, up)) l)) (h p c is (omega (arith, l, size)));
-  above = λ p c up is l. absurd (elim up [ inl e ↦ omega (arith, e) | inr e ↦ omega (arith, e) ]);
+  above = λ p c up is l. absurd (omega (arith, up));
 }
 
 -- versions that end no earlier than those of a heap follow them
 pub heap_more : (m : ℤ) (vs more : List Version) → IsHeap vs → All (λ v. v.end ≤ℤ m) vs
     → All (λ v. v.end ≡ m) more → IsHeap (vs ++ more)
 heap_more m vs more h low at p c is l =
-    let up : p < c = elim is [ inl e ↦ omega (arith, e) | inr e ↦ omega (arith, e) ] in
+    let up : p < c = omega (arith, is) in
     let q : p < length (vs ++ more) = omega (arith, up, l) in
     elim (cases_lt c (length vs)) [
       | inl a ↦ moved (end_at (vs ++ more) p) (end_at vs p) (end_at (vs ++ more) c) (end_at vs c)

@@ -1,12 +1,12 @@
--- Versions as a heap by their ends: no version ends later than its two children, at positions 2p + 1 and 2p + 2.
-use Rattle.std.specs.Prelude.{◌≡◌, ◌≢◌, ℕ, ◌+◌, ◌<◌, ◌⊎◌, List, length, ℤ, ◌<ℤ◌, ◌≤ℤ◌, All}
+-- Versions as a heap by their ends: no version ends later than its eight children, at positions 8p + 1 to 8p + 8.
+use Rattle.std.specs.Prelude.{◌≡◌, ◌≢◌, ℕ, ◌+◌, ◌*◌, ◌<◌, ◌≤◌, List, length, ℤ, ◌<ℤ◌, ◌≤ℤ◌, All}
 use Rattle.tql_spec.specs.Calendar.{high}
 use Rattle.tql_spec.specs.Definition.{Version}
 use Rattle.tql_versions.specs.Places.{version_at}
 
 -- a position is that of a child of another
 abbrev pub IsChild : ℕ → ℕ → Type 0
-IsChild p c = (c ≡ p + p + 1) ⊎ (c ≡ p + p + 2)
+IsChild p c = (p * 8 < c) × (c ≤ p * 8 + 8)
 
 -- the end of the version at a position
 abbrev pub end_at : List Version → ℕ → ℤ

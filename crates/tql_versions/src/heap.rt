@@ -25,16 +25,16 @@ fn first_child(versions: &[Kept], place: usize) -> Option<usize>
     ensures some { IfSome result (IsFirstChild (versions_of versions.now) place) }
     ensures none { IfNone result ((c : _) → IsChild place c → length versions.now ≤ c) }
 {
-    if versions.len() / 2 <= place {
+    let from = place.saturating_mul(8).saturating_add(1);
+    if versions.len() <= from {
         return None;
     }
-    let left = 2 * place + 1;
-    let right = left + 1;
-    if right < versions.len() {
-        Some(sooner_of(versions, left, right))
-    } else {
-        Some(left)
+    let to = from.saturating_add(8).min(versions.len());
+    let mut first = from;
+    for child in from + 1..to {
+        first = sooner_of(versions, first, child);
     }
+    Some(first)
 }
 
 /// Returns the child of a position that ends first, if it ends before the version at the position.
