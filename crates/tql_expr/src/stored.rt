@@ -111,8 +111,13 @@ impl Columns for StoredRow<'_> {
         }
     }
 
+    // The rows of a table that is not versioned are the most common ones.
+    #[inline]
     fn column(&self, place: usize) -> View<'_> {
-        self.value(place)
+        match self.system {
+            None => self.row.column(place),
+            Some(_) => self.value(place),
+        }
     }
 
     fn aggregate<'a>(&'a self, terms: &'a Terms, which: Aggregate) -> Result<View<'a>, Range> {

@@ -41,6 +41,7 @@ impl Drop for Row {
 }
 
 /// Returns the number of columns of a row with these bytes.
+#[inline]
 fn width(bytes: &[u8]) -> usize
     requires { IsRow bytes.now }
     ensures { result ≡ width_of bytes.now }
@@ -53,6 +54,7 @@ fn width(bytes: &[u8]) -> usize
 }
 
 /// Returns the cells of a row with these bytes.
+#[inline]
 fn cells(bytes: &[u8]) -> &[u8]
     requires { IsRow bytes.now }
     ensures { result.now ≡ cells_part bytes.now }
@@ -65,6 +67,7 @@ fn cells(bytes: &[u8]) -> &[u8]
 }
 
 /// Returns the value in a column of a row with these bytes, or NULL past the last column.
+#[inline]
 fn column(bytes: &[u8], place: usize) -> View<'_>
     requires { IsRow bytes.now }
     ensures { datum_of_view result ≡ slice_index_or (row_of bytes.now) place Null }
@@ -129,6 +132,7 @@ impl Row {
     }
 
     /// Returns the value of a column, or NULL past the last one. Allocates no memory.
+    #[inline]
     pub fn column(&self, place: usize) -> View<'_>
         ensures { datum_of_view result ≡ cell self.now place }
     {
