@@ -1,5 +1,5 @@
 -- The current rows of a table as versions, from the list in which they are stored.
-use Rattle.std.specs.Prelude.{ℕ, ◌+◌, List, [], ◌∷◌, if◌then◌else◌}
+use Rattle.std.specs.Prelude.{ℕ, ◌+◌, false, List, [], ◌∷◌, if◌then◌else◌}
 use Rattle.tql_value.specs.declared.when.When.TheVariants.{Now}
 use Rattle.tql_versions.specs.Readings.{is_answer}
 use Rattle.tql_versions.specs.Views.{version_of}
@@ -11,7 +11,7 @@ abbrev pub shown_as : ℕ → Kept → Version
 shown_as id k = record {
   id = id;
   kept = record { ref_ptr = (0, 0); now = k };
-  end = k.end;
+  ends_later = false;
 }
 
 -- the open ones of versions with consecutive ids, the first one given

@@ -15,9 +15,10 @@ use Rattle.tql_spec.specs.Query.{keep}
 use Rattle.tql_spec.specs.Words.{kept_if}
 use Rattle.tql_value.specs.declared.when.When.TheVariants.{Now}
 use Rattle.tql_expr.specs.Evaluated.{behind}
-use Rattle.tql_versions.specs.Readings.{is_answer, open_ones}
+use Rattle.tql_versions.specs.Readings.{is_answer, open_ones, version_shown}
 use Rattle.tql_versions.specs.Views.{version_of, versions_of}
 use Rattle.tql_versions.specs.declared.kept.Kept.{Kept}
+use Rattle.tql_versions.specs.declared.version.Version.{Version as Reading}
 use Rattle.tql_store.specs.Represents.{Copies, Working, Represents, seen_by}
 use Rattle.tql_store.specs.StoreModel.{StoreModel}
 use Rattle.tql_store.specs.Views.{AreRowsNow}
@@ -90,6 +91,22 @@ module _ (shown : Version → Row) (v : Version) (vs : List Version) where
         by_test (Some true) rest e = absurd (cc)
         by_test (Some false) rest e = absurd (cc)
     passing_none false old e = absurd (cc)
+
+-- ---- loop over the versions of a reading
+
+-- one more version, whose row passes or does not
+pub one_more_read : (shown : Version → Row) (vs : List Reading) (i : ℕ) (x : Reading) (conds : List Cond)
+    (old new : List Row) (all : Option (List Row)) → i < length vs → x ≡ slice_index_or vs i x
+    → behind old (keep conds (shown (version_shown x) ∷ [])) ≡ Some new
+    → behind old (keep conds (map shown (map version_shown (drop i vs)))) ≡ all
+    → behind new (keep conds (map shown (map version_shown (drop (i + 1) vs)))) ≡ all
+one_more_read shown vs i x conds old new all l is e h =
+    passing_more shown (version_shown x) (map version_shown (drop (i + 1) vs)) conds true old new e
+    ∙ ap (λ (ws : List Reading). behind old (keep conds (map shown (map version_shown ws))))
+    (sym (drop_more vs i x l ∙ ap {B = List Reading} (λ w. w ∷ drop (i + 1) vs) (sym is)))
+    ∙ h
+
+-- ---- loop over stored versions
 
 module _ (shown : Version → Row) (ks : List Kept) (i : ℕ) (x : Kept) where
   -- the open versions left, from the next one on

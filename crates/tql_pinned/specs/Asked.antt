@@ -1,5 +1,5 @@
 -- Versions as known at a pin: when the commit of that moment was the last one.
-use Rattle.std.specs.Prelude.{◌≡◌, ℤ, ◌≤ℤ◌, int_le, int_lt, Option, Some, None, if◌then◌else◌}
+use Rattle.std.specs.Prelude.{◌≡◌, ◌||◌, ℤ, ◌≤ℤ◌, int_le, int_lt, Option, Some, None, if◌then◌else◌}
 use Rattle.tql_spec.specs.Calendar.{high}
 use Rattle.tql_spec.specs.Definition.{Version}
 use Rattle.tql_versions.specs.Changes.{nothing}
@@ -26,4 +26,4 @@ pub record AsksAt (p : ℤ) (when other : When) : Type 0 where
 
 -- an answer as it was at a pin
 abbrev pub answer_capped : ℤ → answer.Version → answer.Version
-answer_capped p s = record { id = s.id; kept = s.kept; end = end_told p s.end }
+answer_capped p s = record { id = s.id; kept = s.kept; ends_later = s.ends_later || int_lt p s.kept.now.end }

@@ -1,6 +1,6 @@
 //! Reads of the store at a pin: the query to run on the current store, and how its result is shown.
 ghost use Rattle.std.specs.Prelude.{◌≡◌, IfOk, map};
-ghost use Rattle.tql_pinned.specs.Asked.{AsksAt, answer_capped, end_told};
+ghost use Rattle.tql_pinned.specs.Asked.{AsksAt, answer_capped};
 ghost use Rattle.tql_value.specs.declared.when.When.TheVariants as when;
 
 use std::alloc::AllocError;
@@ -78,13 +78,6 @@ pub fn question_at(pin: i64, when: When) -> When
     }
 }
 
-/// Returns the end of a version as known at a pin: `HIGH` if it was ended later.
-fn end_at(pin: i64, end: i64) -> i64
-    ensures { result ≡ end_told pin end }
-{
-    if pin < end { HIGH } else { end }
-}
-
 /// Returns a version as it was at a pin; its row is borrowed from the store.
 fn version_at<'a>(pin: i64, version: &Version<'a>) -> Version<'a>
     ensures { result ≡ answer_capped pin version.now }
@@ -92,7 +85,7 @@ fn version_at<'a>(pin: i64, version: &Version<'a>) -> Version<'a>
     Version {
         id: version.id,
         kept: version.kept,
-        end: end_at(pin, version.end),
+        ends_later: version.ends_later || pin < version.kept.end,
     }
 }
 

@@ -1,7 +1,7 @@
 -- How the versions found in a store give those found at a pin.
 use Rattle.std.proofs.Common.{◌≡◌, ℕ, ◌≤◌, ◌<◌, zero, suc, Bool, true, false, cond, List, [], ◌∷◌, map, filter, length}
 use Rattle.std.proofs.Common.{refl, sym, ap, subst, ◌∙◌, arith, inl, inr, get_or}
-use Rattle.std.specs.Prelude.{◌&&◌, ◌||◌, ℤ, ◌≤ℤ◌, count_by, nat_eq, slice_get, slice_index_or, All}
+use Rattle.std.specs.Prelude.{◌&&◌, ◌||◌, ℤ, ◌≤ℤ◌, count_by, int_lt, nat_eq, slice_get, slice_index_or, All}
 use Rattle.std.specs.Prelude.{option_map, if◌then◌else◌, Option, Some, None}
 use Rattle.std.proofs.lemmas.List.Elements.{All-map}
 use Rattle.std.proofs.lemmas.Option.{slice_get-map}
@@ -22,7 +22,7 @@ use Rattle.tql_store.proofs.Pinning.{live-pinned, none-live, shown_kept, slot_sh
 use Rattle.tql_pinned.proofs.Questions.{nothing_found}
 use Rattle.tql_store.proofs.Searching.{answers-by, filter_both}
 use Rattle.tql_store.proofs.StoreLaws.{same-list}
-use Rattle.tql_pinned.specs.Asked.{answer_capped, capped, shown_at, AsksAt}
+use Rattle.tql_pinned.specs.Asked.{answer_capped, capped, end_told, shown_at, AsksAt}
 use Rattle.tql_store.specs.Pinned.{pinned, slot_pinned}
 use Rattle.tql_store.specs.StoreModel.{StoreModel, has_table, is_versioned, live, named}
 use Rattle.tql_store.specs.TableSlots.{slot_at, is_kept, is_taken}
@@ -87,10 +87,25 @@ shown-found p when other test (v ∷ versions) asks bounded =
 
 -- ---- the parts of a result
 
+end_capped : (later : Bool) (p end : ℤ)
+    → (if later || int_lt p end then high else end) ≡ end_told p (if later then high else end)
+end_capped false p end = refl
+end_capped true p end = same (int_lt p high)
+  where
+    same : (b : Bool) → high ≡ (if b then high else high)
+    same true = refl
+    same false = refl
+
+shown-is_capped : (p : ℤ) (s : answer.Version) → version_shown (answer_capped p s) ≡ capped p (version_shown s)
+shown-is_capped p s = ap (λ (end : ℤ). record { row = (version_shown s).row; end = end })
+    (end_capped s.ends_later p s.kept.now.end)
+
 shown-capped : (p : ℤ) (found : List answer.Version)
     → map version_shown (map (answer_capped p) found) ≡ map (capped p) (map version_shown found)
 shown-capped p [] = refl
-shown-capped p (s ∷ found) = ap (λ vs. capped p (version_shown s) ∷ vs) (shown-capped p found)
+shown-capped p (s ∷ found) =
+    ap (λ (v : Version). v ∷ map version_shown (map (answer_capped p) found)) (shown-is_capped p s)
+    ∙ ap (λ vs. capped p (version_shown s) ∷ vs) (shown-capped p found)
 
 -- each id occurs equally often
 count-capped : (p : ℤ) (id : ℕ) (found : List answer.Version)
@@ -190,7 +205,8 @@ found-ids p h t when other test found asks kept bounded is =
         let shown = is-shown p when other test (version_shown s) asks
         (bounded (version_shown s) (in_place (slice_index_or h.versions t []) s.id (version_shown s) name)) in
         named-pinned (Some p) h t s.id kept ∙ ap (option_map (shown_at (Some p))) name
-        ∙ ap {B = Option Version} Some (shown.is (is-asked h t (both other test) found s is.once m name))
+        ∙ ap {B = Option Version} Some
+        (shown.is (is-asked h t (both other test) found s is.once m name) ∙ sym (shown-is_capped p s))
 
 found-once : (p : ℤ) (h : StoreModel) (t : ℕ) (when other : When) (test : Row → Bool) (found : List answer.Version)
     → AsksAt p when other → is_kept (slot_at h.tables t) ≡ true → AreBounded (slice_index_or h.versions t [])

@@ -46,9 +46,13 @@ pub record Answer : Type 0 where
   pub id : ℕ
   pub version : definition.Version
 
+-- the end of a version as a reading shows it
+abbrev pub end_shown : Version → ℤ
+end_shown s = if s.ends_later then high else s.kept.now.end
+
 -- the version that a reading shows
 abbrev pub version_shown : Version → definition.Version
-version_shown s = record { row = record { cells = s.kept.now.row; start = s.kept.now.start }; end = s.end }
+version_shown s = record { row = record { cells = s.kept.now.row; start = s.kept.now.start }; end = end_shown s }
 
 -- the version that a reading shows, with its id
 abbrev pub answer_of : Version → Answer

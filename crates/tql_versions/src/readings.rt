@@ -48,7 +48,7 @@ pub fn shown(id: usize, version: &Kept) -> Version<'_>
     Version {
         id,
         kept: version,
-        end: version.end,
+        ends_later: false,
     }
 }
 

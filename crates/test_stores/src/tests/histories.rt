@@ -57,7 +57,7 @@ fn are_those(
                 && found.iter().any(|version| {
                     version.id == one.id
                         && version.kept.start == one.kept.start
-                        && version.end == one.end
+                        && version.end() == one.end()
                 })
         })
 }

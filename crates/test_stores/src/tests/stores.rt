@@ -28,7 +28,7 @@ pub fn shown(version: &Version<'_>) -> Shown {
         View::Int(number) => number,
         _ => -1,
     };
-    (number, version.kept.start, version.end)
+    (number, version.kept.start, version.end())
 }
 
 /// Whether a reading finds exactly the wanted version, or no version if none is wanted. If memory is not ample, the
