@@ -5,13 +5,20 @@ Usage: tools/gate.py        (a part of make test)
 
 What rt ci prints is passed on as it comes. Without RT_JOBS in the environment it gets as many lanes as there are processors, or as fit into the memory
 that is free: a check that is given more processors than one ends sooner, but takes a fifth more of their time. Every SECONDS its checks are looked up
-in /proc, so of each the seconds after the last look are missed, some two of a hundred. A check belongs to the crate that it names; it is a test where
-it reads tests, and an edit where it runs in a copy of the crate.
+in /proc, so of each the seconds after the last look are missed, some two of a hundred. Only checks that this gate started are counted. A check belongs
+to the crate that it names; it is a test where it reads tests, and an edit where it runs in a copy of the crate.
 Shared processors are slower, so a fixed loop is timed too: 'by pace' is the sum as it would be on a machine where the loop takes PACE seconds. The
 status is that of rt ci.
+
+Some kits look up the libraries below a crate, and sum up their sources, again for each path that crates.txt has to a library. This repository has half
+a million of these paths, so that would take an hour. Neither changes while rt ci runs, so each crate's answer is remembered (see REMEMBERED).
 """
+import functools
+import importlib.machinery
+import importlib.util
 import os
 import re
+import shutil
 import statistics
 import subprocess
 import sys
@@ -23,6 +30,8 @@ SECONDS, PACE, LEAST = 2, 0.15, 30
 # The most memory that a check takes, in bytes.
 MEMORY = 3 << 30
 TICKS = os.sysconf("SC_CLK_TCK")
+# What rt asks a crate again and again: the libraries below it, and a sum of its sources and theirs, which rt ci keeps nowhere.
+REMEMBERED = ("below", "stamp")
 # The table has a line for each that took LEAST seconds or more.
 NAMED = re.compile(rb"--crate-name\0(\w+)\0")
 
@@ -42,23 +51,40 @@ def lanes() -> int:
     return max(1, min(len(os.sched_getaffinity(0)), fit))
 
 
-def checks() -> "list[tuple[str, tuple[str, str], float]]":
-    """The checks that run now: which process, of which crate and task, and its processor seconds."""
-    found = []
+def processes() -> "dict[int, list[str]]":
+    """The processes that run now, each with the fields of its line in /proc after its name."""
+    found = {}
     for folder in Path("/proc").iterdir():
-        if not folder.name.isdigit():
-            continue
+        if folder.name.isdigit():
+            try:
+                found[int(folder.name)] = (folder / "stat").read_text().rpartition(")")[2].split()
+            except OSError:
+                pass
+    return found
+
+
+def is_own(process: int, running: "dict[int, list[str]]") -> bool:
+    """Whether this program started a process, or started one that did."""
+    while process in running and process != os.getpid():
+        process = int(running[process][1])
+    return process == os.getpid()
+
+
+def checks() -> "list[tuple[str, tuple[str, str], float]]":
+    """The checks of this gate that run now: which process, of which crate and task, and its processor seconds."""
+    found, running = [], processes()
+    for process, fields in running.items():
+        folder = Path(f"/proc/{process}")
         try:
-            words, stat, place = (folder / "cmdline").read_bytes(), (folder / "stat").read_text(), os.readlink(folder / "cwd")
+            words, place = (folder / "cmdline").read_bytes(), os.readlink(folder / "cwd")
         except OSError:
             continue
         named = NAMED.search(words)
-        if not named or b"rattle" not in words.split(b"\0")[0]:
+        if not named or b"rattle" not in words.split(b"\0")[0] or not is_own(process, running):
             continue
-        fields = stat.rpartition(")")[2].split()
         task = "edits" if "rt-edit" in place else "tests" if b"\0--test\0" in words else "proof"
         used = (int(fields[11]) + int(fields[12])) / TICKS
-        found.append((f"{folder.name}.{fields[19]}", (named[1].decode(), task), used))
+        found.append((f"{process}.{fields[19]}", (named[1].decode(), task), used))
     return found
 
 
@@ -90,13 +116,26 @@ class Meter(threading.Thread):
         return "\n".join(lines)
 
 
+def ci() -> int:
+    """Runs rt ci in this process, where each crate remembers its answers."""
+    loader = importlib.machinery.SourceFileLoader("rt", os.path.realpath(shutil.which("rt")))
+    rt = importlib.util.module_from_spec(importlib.util.spec_from_loader("rt", loader))
+    loader.exec_module(rt)
+    for name in REMEMBERED:
+        if hasattr(rt.rtlib.Crate, name):
+            setattr(rt.rtlib.Crate, name, functools.cache(getattr(rt.rtlib.Crate, name)))
+    return rt.main(["ci"])
+
+
 def main() -> int:
+    if sys.argv[1:] == ["--ci"]:
+        return ci()
     meter = Meter()
     meter.start()
     # The last line is held back, so that it stays the last.
     last = ""
     how = {"env": {"RT_JOBS": str(lanes()), **os.environ}, "stdout": subprocess.PIPE, "text": True, "errors": "replace"}
-    with subprocess.Popen(["rt", "ci"], **how) as ran:
+    with subprocess.Popen([sys.executable, __file__, "--ci"], **how) as ran:
         for line in ran.stdout:
             print(last, end="", flush=True)
             last = line
