@@ -11,7 +11,7 @@ Shared processors are slower, so a fixed loop is timed too: 'by pace' is the sum
 status is that of rt ci.
 
 Some kits look up the libraries below a crate, and sum up their sources, again for each path that crates.txt has to a library. This repository has half
-a million of these paths, so that would take an hour. Neither changes while rt ci runs, so each crate's answer is remembered (see REMEMBERED).
+a million of these paths, at an estimated 10 ms each. Neither changes while rt ci runs, so each crate's answer is remembered (see REMEMBERED).
 """
 import functools
 import importlib.machinery
