@@ -12,7 +12,7 @@ use std::alloc::{AllocError, Global};
 
 /// The program's version, and the kit that its proofs are for (`rt version`).
 static VERSION: &str =
-    "0.1.0 (for rattle-kit-13b logic dac8208d650f15bf; verified if built by `make build`, not if by `make quick`)";
+    "0.1.0 (for rattle-kit-13f logic dac8208d650f15bf; verified if built by `make build`, not if by `make quick`)";
 
 /// What help says below the arguments.
 static NOTES: &str =
