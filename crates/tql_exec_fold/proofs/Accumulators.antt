@@ -7,10 +7,9 @@ use Rattle.std.proofs.Math.Bool.{◌||◌}
 use Rattle.std.proofs.lemmas.Bool.{eqb-true}
 use Rattle.std.proofs.lemmas.List.{length-append}
 use Rattle.tql_spec.specs.Words.{◌>>=◌, map_all, with_front}
-use Rattle.tql_spec.specs.Datum.{Datum, Row, Int, fits}
+use Rattle.tql_spec.specs.Datum.{Datum, Row, fits}
 use Rattle.tql_spec.specs.Expression.{aggregate, best, eval, Expr, present}
 use Rattle.tql_spec.specs.Expression as bound
-use Rattle.tql_value.specs.Views.{datum_of_value}
 use Rattle.tql_value.specs.declared.refusal.Refusal.{Refusal}
 use Rattle.tql_value.specs.declared.refusal.Refusal.TheVariants.{OutOfMemory}
 use Rattle.tql_expr.specs.Meaning.{expr, aggregate as tree_of}
@@ -20,7 +19,7 @@ use Rattle.tql_expr.specs.declared.terms.Aggregate.{Aggregate}
 use Rattle.tql_expr.specs.declared.terms.Aggregate.TheVariants.{Rows, Over}
 use Rattle.tql_expr.specs.declared.terms.ExprId.{ExprId}
 use Rattle.tql_expr.specs.declared.terms.Terms.{Terms}
-use Rattle.tql_exec_fold.specs.Folds.{is_better, of_present, sum_behind, the_better}
+use Rattle.tql_exec_fold.specs.Folds.{is_better, of_present, the_better}
 use Rattle.tql_exec_fold.specs.Folded.{after, rest_of, HasFolded, IsOut, Takes}
 use Rattle.tql_exec_fold.specs.declared.fold.Accumulator.{Accumulator}
 use Rattle.tql_exec_fold.proofs.Bests.{one_better, over_few, too_great}
@@ -125,20 +124,6 @@ module _ (t : Terms) (old new : Accumulator) (r : Row) where
           (rest_of (plain_function f) new) v gives value (h.folds was);
     }
 
-left_out : (b c : Bool) → (b || c) ≡ false → b ≡ false
-left_out true c e = e
-left_out false c e = refl
-
--- the result of a function depends on the values alone
-same_rest : (f : bound.Function) (a b : Accumulator) → a.values ≡ b.values → a.sum ≡ b.sum → a.best ≡ b.best
-    → (vs : List Datum) → rest_of f a vs ≡ rest_of f b vs
-same_rest bound.Count a b counts sums bests vs = ap {B = Option Datum} (λ n. Some (Int (pos (n + length vs)))) counts
-same_rest bound.Sum a b counts sums bests vs = ap (λ s. sum_behind s vs) sums
-same_rest bound.Min a b counts sums bests vs =
-    ap {B = Option Datum} (λ v. Some (best (is_better false) (after (datum_of_value v) vs))) bests
-same_rest bound.Max a b counts sums bests vs =
-    ap {B = Option Datum} (λ v. Some (best (is_better true) (after (datum_of_value v) vs))) bests
-
 module _ (t : Terms) (which : Aggregate) (old : Accumulator) (r : Row) where
   module _ (f : code.Function) (x : ExprId) (is : which ≡ Over f x) where
     -- the operand is out of range
@@ -146,18 +131,15 @@ module _ (t : Terms) (which : Aggregate) (old : Accumulator) (r : Row) where
     leaves_range new out none =
         subst (λ w. Takes t w old new r) (sym is) (took_out t old new r f x out none)
 
-    -- the value of the operand is added to the accumulator, with which `now` agrees
-    pub adds_value : {U : Type 0} (now new : Accumulator) (v : Datum) (result : Result U Refusal) (b : Bool)
-        → (old.is_out || b) ≡ false → now.rows ≡ old.rows → now.values ≡ old.values → now.sum ≡ old.sum
-        → now.best ≡ old.best → now.is_out ≡ false → IfOk result (λ _. new.rows ≡ now.rows + 1)
-        → new.is_out ≡ now.is_out → IfOk result (λ _. (vs : List Datum) → rest_of (plain_function f) new (present vs)
-        ≡ rest_of (plain_function f) now (present (v ∷ vs))) → IfErr result (λ e. e ≡ OutOfMemory)
+    -- the value of the operand is added
+    pub adds_value : {U : Type 0} (new : Accumulator) (v : Datum) (result : Result U Refusal) → old.is_out ≡ false
+        → IfOk result (λ _. new.rows ≡ old.rows + 1) → new.is_out ≡ old.is_out
+        → IfOk result (λ _. (vs : List Datum) → rest_of (plain_function f) new (present vs)
+        ≡ rest_of (plain_function f) old (present (v ∷ vs))) → IfErr result (λ e. e ≡ OutOfMemory)
         → Some v ≡ eval [] r (expr t x) → MatchResult result (λ _. Takes t which old new r) (λ e. e ≡ OutOfMemory)
-    adds_value now new v (Err e) b within rows values sums bests in_range next out folds memory value = memory
-    adds_value now new v (Ok u) b within rows values sums bests in_range next out folds memory value =
-        subst (λ w. Takes t w old new r) (sym is) (took_value t old new r f x v (next ∙ ap (λ n. n + 1) rows)
-        (left_out old.is_out b within) (out ∙ in_range)
-        (λ vs. folds vs ∙ same_rest (plain_function f) now old values sums bests (present (v ∷ vs))) value)
+    adds_value new v (Err e) held next out folds memory value = memory
+    adds_value new v (Ok u) held next out folds memory value =
+        subst (λ w. Takes t w old new r) (sym is) (took_value t old new r f x v next held (out ∙ held) folds value)
 
 -- ---- one more value
 

@@ -2,7 +2,8 @@
 //! `<aggregate function>`).
 ghost use Rattle.std.specs.Prelude.{◌≡◌, ℕ, ◌^◌, ◌+◌, [], if◌then◌else◌};
 ghost use Rattle.tql_value.specs.Views.{datum_of_view, outcome};
-ghost use Rattle.tql_exec_fold.specs.Folds.{added, IsWithin, sum_behind, the_better};
+ghost use Rattle.tql_spec.specs.Datum.{Int};
+ghost use Rattle.tql_exec_fold.specs.Folds.{added, is_better, IsWithin, sum_behind, the_better};
 
 use tql_value::arithmetic::Range;
 use tql_value::comparison::order;
@@ -33,6 +34,14 @@ pub(crate) fn summed<'a>(sum: Option<i128>) -> Result<View<'a>, Range>
             Err(_) => Err(Range),
         },
     }
+}
+
+/// Whether the second of two numbers is the greater or the lesser one.
+#[inline]
+pub(crate) fn is_number_beaten(greatest: bool, a: i64, b: i64) -> bool
+    ensures { result ≡ is_better greatest (Int b) (Int a) }
+{
+    if greatest { a < b } else { b < a }
 }
 
 /// Whether the second of two values is the greater or the lesser one. NULL loses to any value, and of equal values the

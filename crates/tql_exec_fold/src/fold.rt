@@ -4,10 +4,11 @@ ghost use Rattle.tql_spec.specs.Datum as pure;
 ghost use Rattle.tql_value.specs.Views.{datum_of_value, datum_of_view};
 ghost use Rattle.tql_exec_fold.specs.Folds.{IsWithin, the_better};
 
-use crate::aggregates::{is_beaten, summed, with_value};
+use crate::aggregates::{is_beaten, is_number_beaten, summed, with_value};
 use tql_exec_join::tuple::Tuple;
-use tql_expr::node::Function;
-use tql_expr::terms::{Aggregate, Terms};
+use tql_expr::columns::Columns;
+use tql_expr::node::{Function, Node};
+use tql_expr::terms::{Aggregate, ExprId, Terms};
 use tql_memory::Memory;
 use tql_value::arithmetic::Range;
 use tql_value::refusal::Refusal;
@@ -57,8 +58,8 @@ fn with_count(values: u64, value: View<'_>) -> u64
     if value.is_null() { values } else { values + 1 }
 }
 
-/// Replaces the best value so far by one that is better. Any other value is not copied. The only error is a refused
-/// allocation.
+/// Replaces the best value so far by one that is better. Any other value is not copied. Numbers, the most common
+/// values, are compared directly. The only error is a refused allocation.
 fn keep_better(
     memory: Memory,
     greatest: bool,
@@ -70,7 +71,11 @@ fn keep_better(
         ≡ the_better greatest (datum_of_value best.old) (datum_of_view value.entry))
         (λ e. e ≡ Refusal.OutOfMemory) }
 {
-    if !is_beaten(greatest, best.view(), value) {
+    let is_better = match (&*best, value) {
+        (Value::Int(first), View::Int(second)) => is_number_beaten(greatest, *first, second),
+        _ => is_beaten(greatest, best.view(), value),
+    };
+    if !is_better {
         return Ok(());
     }
     *best = value.to_value(memory)?;
@@ -78,13 +83,14 @@ fn keep_better(
 }
 
 impl Accumulator {
-    ghost use Rattle.std.specs.Prelude.{◌≡◌, ◌+◌, ◌<◌, ◌^◌, ◌∷◌, [], IfErr, IfOk, List, MatchResult};
+    ghost use Rattle.std.specs.Prelude.{◌≡◌, ◌+◌, ◌<◌, ◌^◌, ◌∷◌, [], false, IfErr, IfOk, List, MatchResult};
     ghost use Rattle.tql_spec.specs.Datum as pure;
     ghost use Rattle.tql_spec.specs.Expression as bound;
     ghost use Rattle.tql_value.specs.Views.{datum_of_value, datum_of_view, outcome};
-    ghost use Rattle.tql_expr.specs.Meaning.{aggregate as tree_of, HasOperand};
+    ghost use Rattle.tql_expr.specs.Meaning.{aggregate as tree_of, HasExpr, HasOperand};
     ghost use Rattle.tql_expr.specs.Trees.{plain_function};
     ghost use Rattle.tql_expr.specs.declared.terms.Aggregate.{Aggregate};
+    ghost use Rattle.tql_expr.specs.declared.terms.Aggregate.TheVariants.{Over};
     ghost use Rattle.tql_expr.specs.declared.terms.Terms.{Terms};
     ghost use Rattle.tql_exec_join.specs.Tuples.{tuple_row};
     ghost use Rattle.tql_exec_fold.specs.Folded.{rest_of, HasFolded, Takes};
@@ -103,6 +109,7 @@ impl Accumulator {
     }
 
     /// Takes the value of the operand on one more row. The only error is a refused allocation.
+    #[inline]
     fn add(&mut self, memory: Memory, function: Function, value: View<'_>) -> Result<(), Refusal>
         requires { self.old.rows + 1 < 2 ^ 63 }
         ensures rows { IfOk result (λ _. self.new.rows ≡ self.old.rows + 1) }
@@ -122,8 +129,35 @@ impl Accumulator {
         Ok(())
     }
 
-    /// Takes one more row. The operand is evaluated once. Remembers that it is out of range, or that there are more
-    /// rows than 64 bits can count. The only error is a refused allocation.
+    /// Takes one more row, on which the operand is evaluated. Remembers that it is out of range.
+    #[inline(never)]
+    fn take_evaluated(
+        &mut self,
+        memory: Memory,
+        terms: &Terms,
+        function: Function,
+        x: ExprId,
+        row: &Tuple<'_>,
+    ) -> Result<(), Refusal>
+        requires there { HasExpr terms.now x }
+        requires few { self.old.rows + 1 < 2 ^ 63 }
+        requires held { self.old.is_out ≡ false }
+        ensures { MatchResult result
+            (λ _. Takes terms.now (Over function x) self.old self.new (tuple_row row.now))
+            (λ e. e ≡ Refusal.OutOfMemory) }
+    {
+        match terms.eval(x, row) {
+            Ok(value) => self.add(memory, function, value),
+            Err(_) => {
+                self.is_out = true;
+                Ok(())
+            }
+        }
+    }
+
+    /// Takes one more row. The operand is evaluated once; a column, the most common one, is read directly. Remembers
+    /// that it is out of range, or that there are more rows than 64 bits can count. The only error is a refused
+    /// allocation.
     pub fn take(
         &mut self,
         memory: Memory,
@@ -135,20 +169,20 @@ impl Accumulator {
         ensures { MatchResult result
             (λ _. Takes terms.now which self.old self.new (tuple_row row.now)) (λ e. e ≡ Refusal.OutOfMemory) }
     {
-        self.is_out |= self.rows == MOST;
         if self.is_out {
+            return Ok(());
+        }
+        if self.rows == MOST {
+            self.is_out = true;
             return Ok(());
         }
         let Aggregate::Over(function, x) = which else {
             self.rows += 1;
             return Ok(());
         };
-        match terms.eval(x, row) {
-            Ok(value) => self.add(memory, function, value),
-            Err(_) => {
-                self.is_out = true;
-                Ok(())
-            }
+        match terms.node(x.place) {
+            Node::Column(column) => self.add(memory, function, row.column(column)),
+            _ => self.take_evaluated(memory, terms, function, x, row),
         }
     }
 
