@@ -1,27 +1,27 @@
 #!/usr/bin/env python3
 """How long queries take that look at all rows, join, group and order, in tql and in sqlite3 over a database in memory, at several sizes N.
 
-Usage: benches/queries.py [N..]        (first: make build; TQL=path of another program; sqlite3 on the path)
+Usage: benches/queries.py [N..] [WORD..]        (all questions, or those whose line has one of the words; first: make build; TQL=path of another
+       program; sqlite3 on the path)
 
 Two tables of N rows of three INTEGERs each: n is one of 0 to N - 1 and its own in each row, k is n modulo 100, c is 1. None has a key, and sqlite3 no
 index but those that it makes for a question. A third of the same columns is empty, and takes rows of the first by a query, which are rolled back. A
 fourth table has a period of 10 days of 1,000; the two columns are texts in sqlite3, with an index of the first. A fifth has its N rows written anew in
 three later minutes, and a reader was opened after the second; in sqlite3 its history is kept by hand, with an index of the starts.
 
-What is printed goes nowhere. Each time is that of a processor for a question and a row of the table: the lower of two runs of a script that asks the
-question as often as takes as long as making the table, less that of the script without it.
+What is printed is read from a pipe, and goes nowhere. The two programs take turns, TURNS times a question, which is asked as often in a turn as takes
+LEAST milliseconds. The times are those of a processor for a question and a row of the table, the lowest of the turns; the ratio is the middle of those
+of single turns.
 """
-import os
-import subprocess
+import statistics
 import sys
-import tempfile
 import time
-from pathlib import Path
 
-TOP = Path(__file__).resolve().parent.parent
-TQL = os.environ.get("TQL", str(TOP / "tql"))
-# How often a question is asked at most.
-MOST = 50_000
+from turns import Program, begun
+
+TURNS, LEAST = 7, 20.0
+# How often a question is asked at most in a turn.
+MOST = 5_000
 ALWAYS = "s TIMESTAMP GENERATED ALWAYS AS ROW START, e TIMESTAMP GENERATED ALWAYS AS ROW END, PERIOD FOR SYSTEM_TIME (s, e)"
 LISTED = ", ".join(str(it * 37) for it in range(200))
 TAKEN = "INSERT INTO w SELECT n, k, c FROM t; ROLLBACK;"
@@ -93,48 +93,40 @@ def past(who: str, count: int) -> list[str]:
     return [*lines, "COMMIT;"]
 
 
-def begun(who: str) -> str:
-    return "START TRANSACTION;" if who == "tql" else "BEGIN;"
+def filled(who: str, lines: "list[str]") -> Program:
+    """A program that has run a script."""
+    it = Program(who)
+    it.run(lines)
+    return it
 
 
-def took(who: str, path: Path, lines: list[str]) -> float:
-    """The lower time of two runs of a script, in seconds of a processor."""
-    path.write_text("\n".join(lines) + "\n", encoding="utf-8")
-    words, times = [TQL, str(path)] if who == "tql" else ["sqlite3", ":memory:", f".read {path}"], []
-    for _ in range(2):
-        ran = subprocess.Popen(words, stdout=subprocess.DEVNULL)
-        _, status, used = os.wait4(ran.pid, 0)
-        if status:
-            sys.exit(f"{words[0]} ends with status {status}")
-        times.append(used.ru_utime + used.ru_stime)
-    return min(times)
-
-
-def asked(who: str, path: Path, lines: list[str], alone: float, question: str) -> float:
-    """The time of one asking of a question behind a script that takes so long without it."""
-    times = 4
-    while True:
-        spent = took(who, path, lines + [question] * times) - alone
-        if spent > max(alone, 0.2) or times * 4 > MOST:
-            return spent / times
-        times *= 4
+def measured(count: int, question: "tuple[str, str, str, str | None]", programs: "dict[str, Program]") -> str:
+    """The nanoseconds of a question and a row in both programs, and the ratio."""
+    asked, times, spent = {"tql": question[2], "sqlite3": question[3] or question[2]}, {}, []
+    for who, it in programs.items():
+        one = it.run([asked[who]])
+        times[who] = max(1, min(MOST, int(LEAST / max(one, 0.001))))
+    for _ in range(TURNS):
+        spent.append({who: it.run([asked[who]] * times[who]) / times[who] / count * 1e6 for who, it in programs.items()})
+    ratio = statistics.median(it["tql"] / it["sqlite3"] for it in spent)
+    return " | ".join([*(f"{min(it[who] for it in spent):.0f} ns" for who in programs), f"{ratio:.2f}"])
 
 
 def main() -> int:
-    sizes = [int(it) for it in sys.argv[1:]] or [1000, 10_000, 100_000]
-    made = {"plain": plain, "days": days, "past": past}
-    found: dict[str, list[str]] = {it[0]: [] for it in QUESTIONS}
-    with tempfile.TemporaryDirectory() as room:
-        for count in sizes:
-            for who in ("tql", "sqlite3"):
-                scripts = {name: make(who, count) for name, make in made.items()}
-                alone = {name: took(who, Path(room) / "script.sql", lines) for name, lines in scripts.items()}
-                for name, table, ours, theirs in QUESTIONS:
-                    question = ours if who == "tql" else theirs or ours
-                    spent = asked(who, Path(room) / "script.sql", scripts[table], alone[table], question)
-                    found[name].append(f"{spent / count * 1e9:.0f} ns")
-    print("| What | " + " | ".join(f"`tql`, {count:,} | `sqlite3`, {count:,}" for count in sizes) + " |")
-    print("|---|" + "---|" * 2 * len(sizes))
+    sizes = [int(it) for it in sys.argv[1:] if it.isdigit()] or [1000, 10_000, 100_000]
+    words = [it for it in sys.argv[1:] if not it.isdigit()]
+    questions = [it for it in QUESTIONS if not words or any(word in it[0] for word in words)]
+    found: "dict[str, list[str]]" = {it[0]: [] for it in questions}
+    for count in sizes:
+        for table, make in (("plain", plain), ("days", days), ("past", past)):
+            of = [it for it in questions if it[1] == table]
+            programs = {who: filled(who, make(who, count)) for who in ("tql", "sqlite3")} if of else {}
+            for question in of:
+                found[question[0]].append(measured(count, question, programs))
+            for it in programs.values():
+                it.end()
+    print("| What | " + " | ".join(f"`tql`, {count:,} | `sqlite3`, {count:,} | ratio" for count in sizes) + " |")
+    print("|---|" + "---|" * 3 * len(sizes))
     for name, told in found.items():
         print(f"| {name} | {' | '.join(told)} |")
     return 0
