@@ -1,11 +1,12 @@
 -- From the step of the reference model at a statement to the answer to a text.
-use Rattle.std.proofs.Common.{refl, ℕ, List, Result, Ok, Err, inl, inr}
+use Rattle.std.proofs.Common.{refl, subst, ℕ, List, Result, Ok, Err, inl, inr}
+use Rattle.tql_spec.specs.Refusal as spec
 use Rattle.tql_spec.specs.Refusal.{OutOfMemory}
 use Rattle.tql_spec.specs.Machine as machine
 use Rattle.tql_spec.specs.Machine.{State, Refused}
 use Rattle.tql_spec.specs.Script.{Piece}
 use Rattle.tql_spec.specs.Syntax.{Statement}
-use Rattle.tql_spec.specs.Run.{HasSense, Says, Faulty, Answers, finished, respond}
+use Rattle.tql_spec.specs.Run.{HasSense, Says, Faulty, Answers, RefusalsKeepState, finished, respond}
 use Rattle.tql_value.specs.Refusals.{refusal_of}
 use Rattle.tql_value.specs.declared.refusal.Refusal.{Refusal}
 use Rattle.tql_value.specs.declared.refusal.Refusal.TheVariants as r
@@ -141,3 +142,8 @@ pub result_answered : (new : EngineModel) (s : State) (text : List ℕ) (t : Sta
     → Answered s (finished text) (reply_by result) new
 result_answered new s text t (Ok reply) sense d = statement_answered new s text t (reply_of reply) sense d
 result_answered new s text t (Err e) sense d = refused_answered new s text t e sense d
+
+-- a refused statement has changed nothing: the engine represents the state before it
+pub unchanged : RefusalsKeepState → (h : EngineModel) (s : State) (p : Piece) (e : spec.Refusal)
+    → Answered s p (Refused e) h → StandsFor h s
+unchanged law h s p e a = subst (λ (x : State). StandsFor h x) (law s a.state p e a.answers) a.stands

@@ -11,6 +11,7 @@ mod queries;
 mod reading;
 mod transactions;
 
+use crate::reserve::{Reserve, adds_to_tables};
 use std::marker::Model;
 use tql_bound::bound::Bound;
 use tql_bound::reader::Reader;
@@ -23,6 +24,7 @@ use tql_memory::Memory;
 use tql_result::answer::Answer;
 use tql_result::reply::Reply;
 use tql_run::responder::Responder;
+use tql_spec::refused_statements;
 use tql_store::store::Store;
 use tql_syntax::ending::{TransactionEnd, transaction_end};
 use tql_syntax_tree::statement::Statement;
@@ -37,6 +39,7 @@ pub struct Engine<I: IntervalIndex> {
     store: Store<I>,
     next: i64,
     readers: Vec<Reader, Memory>,
+    reserve: Reserve,
 }
 
 impl<I: IntervalIndex> Drop for Engine<I> {
@@ -47,10 +50,12 @@ impl<I: IntervalIndex> Drop for Engine<I> {
             store,
             next: _,
             readers,
+            reserve,
         } = self;
         drop(tables);
         drop(store);
         drop(readers);
+        drop(reserve);
     }
 }
 
@@ -107,12 +112,24 @@ impl<I: IntervalIndex> Engine<I> {
         ensures stands { StandsFor result new_state }
         ensures holds { HoldsFor result new_state }
     {
+        Engine::with_reserve(memory, 0)
+    }
+
+    /// Returns an engine as `new` does, which keeps back a number of bytes from INSERT, UPDATE and CREATE TABLE. Any
+    /// other statement that is refused for memory is run once more with them: a query, say, or a DELETE that makes
+    /// room. The bytes are allocated in one block when a statement runs, and not written to.
+    #[tactic(auto, using(tql_engine_state::proofs::Standing::new_law, crate::proofs::HoldPoints::new_holds))]
+    pub fn with_reserve(memory: Memory, kept_back: usize) -> Engine<I>
+        ensures stands { StandsFor result new_state }
+        ensures holds { HoldsFor result new_state }
+    {
         Engine {
             memory,
             tables: Catalog::new(memory),
             store: Store::new(memory),
             next: FIRST_MOMENT,
             readers: Vec::new(memory),
+            reserve: Reserve::new(memory, kept_back),
         }
     }
 
@@ -175,7 +192,7 @@ impl<I: IntervalIndex> Engine<I> {
     }
 
     /// Parses a text and runs its statement.
-    fn run_text(&mut self, text: &[u8]) -> Result<Reply, Refusal>
+    fn run_once(&mut self, text: &[u8]) -> Result<Reply, Refusal>
         ensures answered { (s : State) → StandsFor self.old s
             → Answered Answers s (finished text.now) (reply_by result) (StandsFor self.new) }
         ensures printable { IfOk result (λ reply. IsPrintableReply (reply_of reply)) }
@@ -183,6 +200,39 @@ impl<I: IntervalIndex> Engine<I> {
         match read_statement(self.memory, text) {
             Ok(tree) => self.execute(&tree.statement),
             Err(refusal) => Err(refusal),
+        }
+    }
+
+    /// Parses a text, whose statement was refused for memory, and runs it with the memory that is kept back. If it adds
+    /// to the tables, it stays refused.
+    fn run_lent(&mut self, text: &[u8], refusal: Refusal) -> Result<Reply, Refusal>
+        requires memory { refusal ≡ Refusal.OutOfMemory }
+        ensures answered { (s : State) → StandsFor self.old s
+            → Answered Answers s (finished text.now) (reply_by result) (StandsFor self.new) }
+        ensures printable { IfOk result (λ reply. IsPrintableReply (reply_of reply)) }
+    {
+        self.reserve.lend(self.memory);
+        match read_statement(self.memory, text) {
+            Ok(tree) if adds_to_tables(&tree.statement) => Err(refusal),
+            Ok(tree) => self.execute(&tree.statement),
+            Err(refusal) => Err(refusal),
+        }
+    }
+
+    /// Parses a text and runs its statement. If it is refused for memory, it has changed nothing. Then it is run once
+    /// more as `run_lent` does, if some memory is kept back.
+    fn run_text(&mut self, text: &[u8]) -> Result<Reply, Refusal>
+        ensures answered { (s : State) → StandsFor self.old s
+            → Answered Answers s (finished text.now) (reply_by result) (StandsFor self.new) }
+        ensures printable { IfOk result (λ reply. IsPrintableReply (reply_of reply)) }
+    {
+        refused_statements();
+        self.reserve.take_back(self.memory);
+        match self.run_once(text) {
+            Err(refusal @ Refusal::OutOfMemory) if self.reserve.is_held() => {
+                self.run_lent(text, refusal)
+            }
+            outcome => outcome,
         }
     }
 

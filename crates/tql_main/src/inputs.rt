@@ -14,6 +14,7 @@ use std::io::{self, BufWriter, ErrorKind, IsTerminal, Read};
 use tql_check::check::Checker;
 use tql_memory::{Memory, memory_within};
 use tql_options::options::{Format, Input};
+use tql_options::sizes::kept_back;
 use tql_result::std_sink::StdSink;
 use tql_run::responder::Responder;
 use tql_run::runner::{Fault, Summary};
@@ -236,13 +237,16 @@ fn answer_by<'a, R: Runner>(
 /// Runs the inputs of a job, or checks them, within a bound of memory.
 fn answer_within(job: &Job<'_, '_>, memory: Memory) -> Result<Summary, Fault> {
     let progress = Progress::new(job.inputs);
+    let reserve = kept_back(job.most);
     if job.check {
         answer_by(job, &progress, &mut Checker::new(memory))
     } else if job.plans {
-        let mut told = PlansTold::new(job.rt, Engine::new(memory), &progress);
+        let engine = Engine::with_reserve(memory, reserve);
+        let mut told = PlansTold::new(job.rt, engine, &progress);
         answer_by(job, &progress, &mut told)
     } else {
-        answer_by(job, &progress, &mut Engine::new(memory))
+        let mut engine = Engine::with_reserve(memory, reserve);
+        answer_by(job, &progress, &mut engine)
     }
 }
 

@@ -1,5 +1,5 @@
 -- Sizes in bytes.
-use Rattle.std.specs.Prelude.{◌-◌, ◌*◌, ◌^◌, ◌==◌, ◌||◌, ℕ, if◌then◌else◌, nat_lt, List, length, take, get_or}
+use Rattle.std.specs.Prelude.{◌-◌, ◌*◌, ◌/◌, ◌^◌, ◌==◌, ◌||◌, ℕ, if◌then◌else◌, nat_lt, List, length, take, get_or}
 use Rattle.std.specs.Prelude.{Option, Some, None}
 use Rattle.std.specs.List.{list_all}
 use Rattle.tql_spec.specs.Calendar.{is_digit, number_from}
@@ -37,3 +37,7 @@ sized (Some unit) rest word = units (number_in rest) unit
 abbrev pub bytes_told : List ℕ → Option ℕ
 bytes_told word = if length word == 0 then None
     else sized (unit_of (get_or word (length word - 1) 0)) (take (length word - 1) word) word
+
+-- the bytes of a limit that are kept back: a quarter of it; none if it is below 2 ^ 20, or if there is no limit
+abbrev pub kept_back : ℕ → ℕ
+kept_back most = if nat_lt most (2 ^ 20) || most == 2 ^ 64 - 1 then 0 else most / 4

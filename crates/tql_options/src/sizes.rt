@@ -1,6 +1,9 @@
 //! Sizes in bytes on the command line.
 ghost use Rattle.std.specs.Prelude.{◌≡◌, ◌∷◌, []};
-ghost use Rattle.tql_options.specs.Sizes.{bytes_told, number_behind, number_in, unit_of};
+ghost use Rattle.tql_options.specs.Sizes.{bytes_told, kept_back, number_behind, number_in, unit_of};
+
+/// The least limit of memory of which a part is kept back, in bytes.
+const LEAST_DIVIDED: usize = 1 << 20;
 
 /// Appends a digit to a number. None if the byte is not a digit, or if the number does not fit into 64 bits.
 fn with_digit(number: usize, byte: u8) -> Option<usize>
@@ -51,5 +54,17 @@ pub fn bytes_of(word: &str) -> Option<usize>
     match unit(*letter) {
         Some(unit) => number(rest)?.checked_mul(unit),
         None => number(bytes),
+    }
+}
+
+/// Returns how many bytes of a limit are kept back from statements that add to the tables: a quarter. None are kept
+/// back if the limit is below 1,048,576 bytes, or if there is none (`usize::MAX`).
+pub fn kept_back(most: usize) -> usize
+    ensures { result ≡ kept_back most }
+{
+    if most < LEAST_DIVIDED || most == usize::MAX {
+        0
+    } else {
+        most / 4
     }
 }

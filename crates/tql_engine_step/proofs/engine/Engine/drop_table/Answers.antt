@@ -1,13 +1,12 @@
-use Rattle.std.proofs.Common.{◌≡◌, ◌<◌, ℕ, false, length, sym, subst, Bool, None, Result}
+use Rattle.std.proofs.Common.{◌≡◌, ◌<◌, ℕ, false, length, sym, subst, Bool}
 use Rattle.std.specs.Prelude.{IsNone}
 use Rattle.tql_spec.specs.Binding.{is_referenced}
-use Rattle.tql_spec.specs.Definition.{Name, TableDef, table_at}
+use Rattle.tql_spec.specs.Definition.{table_at}
 use Rattle.tql_spec.specs.Machine.{State, DropTable}
 use Rattle.tql_spec.specs.Refusal.{TableIsReferenced, fault_if, first}
-use Rattle.tql_value.specs.declared.refusal.Refusal.{Refusal}
 use Rattle.std.specs.Prelude.{Err}
 use Rattle.tql_catalog.specs.declared.catalog.Table.{Table}
-use Rattle.tql_catalog.specs.Tables.{definitions_of, reference_faults, Refuses}
+use Rattle.tql_catalog.specs.Tables.{definitions_of, Refuses}
 use Rattle.tql_engine_state.specs.Dropping.{IsDropped}
 use Rattle.tql_engine_state.specs.Allowed.{IsUnread}
 use Rattle.tql_engine_state.specs.Stands.{EngineModel, StandsFor}

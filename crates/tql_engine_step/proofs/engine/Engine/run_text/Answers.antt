@@ -1,12 +1,12 @@
-use Rattle.tql_syntax_tree.specs.Trees.{tree_of}
-use Rattle.tql_engine_step.proofs.Stepping.{result_answered, unread_answered}
+use Rattle.std.proofs.Common.{subst, sym}
+use Rattle.tql_spec.specs.Run.{finished}
+use Rattle.tql_engine_state.specs.Stands.{EngineModel, StandsFor}
+use Rattle.tql_engine_step.proofs.Stepping.{unchanged}
 use Rattle.tql_engine_step.proofs.engine.Engine.run_text.Goals as goal
 
-pub returns-in-Ok-clause-answered : goal.returns-in-Ok-clause-answered
-returns-in-Ok-clause-answered g c s st =
-    result_answered _ s c.args.text.now (tree_of c.in-Ok.tree) c.execute.result c.in-Ok.ensures
-    (c.execute.ensures.answered s st)
-
-pub returns-in-Err-clause-answered : goal.returns-in-Err-clause-answered
-returns-in-Err-clause-answered g c s st =
-    unread_answered c.args.self.now s st c.args.text.now c.in-Err.refusal c.in-Err.ensures
+pub returns-in-Err-OutOfMemory-clause-answered : goal.returns-in-Err-OutOfMemory-clause-answered
+returns-in-Err-OutOfMemory-clause-answered g c s st =
+    let kept = subst (λ (h : EngineModel). StandsFor h s) (sym c.self.view_is) st in
+    c.run_lent.ensures.answered s
+    (unchanged c.refused_statements.ensures c.run_once.new.self s (finished c.args.text.now) _
+    (c.in-Err-OutOfMemory.ensures.answered s kept))
