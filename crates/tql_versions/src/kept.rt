@@ -228,6 +228,19 @@ pub fn retire_kept(
     }
 }
 
+/// Makes room for more versions. A full list doubles, or grows by an eighth if there is no memory for that.
+pub fn reserve_versions(versions: &mut Vec<Kept, Memory>, more: usize) -> Result<(), AllocError>
+    ensures items { versions.new.items ≡ versions.old.items }
+    ensures len { vec_len versions.new ≡ vec_len versions.old }
+    ensures grows { vec_capacity versions.old ≤ vec_capacity versions.new }
+    ensures ok { OnOk result (vec_len versions.new + more ≤ vec_capacity versions.new) }
+{
+    if versions.reserve(more).is_ok() {
+        return Ok(());
+    }
+    versions.reserve_exact(more.max(versions.len() / 8))
+}
+
 /// Reserves room for more closed versions, if the table keeps its history.
 pub fn reserve_kept(
     keeps: bool,
@@ -243,7 +256,7 @@ pub fn reserve_kept(
     if !keeps {
         return Ok(());
     }
-    closed.reserve(more)
+    reserve_versions(closed, more)
 }
 
 /// Returns the period of a version that is closed at the moment.
