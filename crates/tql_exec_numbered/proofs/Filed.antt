@@ -1,14 +1,14 @@
 -- One more row in a table of slots.
 use borrow.Author.Tests.{ltb-true, ltb-false}
-use Rattle.std.specs.Prelude.{◌≡◌, refl, ℕ, zero, suc, ◌+◌, ◌<◌, true, List, [], ◌∷◌, ◌++◌, length}
-use Rattle.std.specs.Prelude.{Some, slice_get, nat_lt}
+use Rattle.std.specs.Prelude.{◌≡◌, refl, ℕ, zero, suc, ◌+◌, ◌<◌, ◌≤◌, true, List, [], ◌∷◌, ◌++◌, length}
+use Rattle.std.specs.Prelude.{None, Some, option_map, slice_get, nat_lt}
 use Rattle.std.proofs.Common.{sym, ap, subst, ◌∙◌, arith}
 use Rattle.std.proofs.lemmas.List.{length-append}
 use Rattle.std.proofs.lemmas.Option.{slice_get_within}
 use Rattle.tql_spec.specs.Datum.{Row}
 use Rattle.tql_spec.proofs.Members.{by_bool}
 use Rattle.tql_exec_join.specs.Digest.{digest}
-use Rattle.tql_exec_numbered.specs.Runs.{AreRuns}
+use Rattle.tql_exec_numbered.specs.Runs.{row_at, AreRuns}
 use Rattle.tql_exec_numbered.specs.Slots.{first_place, is_kept, AreFiled}
 
 -- ---- a list with one item more
@@ -23,6 +23,19 @@ got_last [] x zero is = refl
 got_last [] x (suc n) is = absurd (omega arith)
 got_last (y ∷ xs) x zero is = absurd (omega arith)
 got_last (y ∷ xs) x (suc n) is = got_last xs x n (omega arith)
+
+-- ---- a row by its digest
+
+pub with_digest : (rows : List Row) (n d : ℕ) → option_map (digest 0) (slice_get rows n) ≡ Some d
+    → (slice_get rows n ≡ Some (row_at rows n)) × (d ≡ digest 0 (row_at rows n))
+with_digest [] n d e = cc
+with_digest (r ∷ rows) zero d e = (refl, cc)
+with_digest (r ∷ rows) (suc n) d e = with_digest rows n d e
+
+pub without_digest : (rows : List Row) (n : ℕ) → option_map (digest 0) (slice_get rows n) ≡ None → length rows ≤ n
+without_digest [] n e = omega arith
+without_digest (r ∷ rows) zero e = cc
+without_digest (r ∷ rows) (suc n) e = omega (arith, without_digest rows n e)
 
 module _ (rows : List Row) (os ns : List ℕ) (before_runs after_runs : List (List ℕ)) (k d : ℕ) (r : Row)
     (got : slice_get rows k ≡ Some r) (right : d ≡ digest 0 r) (len : length ns ≡ length os)

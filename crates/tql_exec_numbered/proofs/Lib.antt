@@ -4,3 +4,5 @@ pub mod Known
 pub mod Searched
 pub mod Joined
 pub mod Placed
+pub mod Parts
+pub mod Lasts

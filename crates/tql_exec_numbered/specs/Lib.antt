@@ -1,3 +1,4 @@
 pub mod Numbered
+pub mod Rows
 pub mod Runs
 pub mod Slots

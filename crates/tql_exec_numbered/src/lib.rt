@@ -3,4 +3,5 @@
 
 mod cells;
 pub mod numbered;
+mod rows;
 mod runs;

@@ -2,17 +2,18 @@
 //! the rows of a query with DISTINCT.
 //!
 //! Rows are looked up in a hash table with linear probing. The digest of a row gives its first slot, and a look-up
-//! reads up to `WINDOW` slots, or to the first empty one. Row numbers for which all of these slots were taken are in
-//! sorted runs, which are searched by binary search. There are many of them only if rows were chosen to collide.
+//! reads up to `WINDOW` slots, or to the first empty one. A slot has 32 bits. Row numbers that do not fit, or for which
+//! all of these slots were taken, are in sorted runs, which are searched by binary search. There are many of them only
+//! if rows were chosen to collide.
 ghost use Rattle.std.specs.Prelude.{◌≡◌, ◌≢◌, ◌+◌, ◌<◌, ◌^◌, ◌↔◌, IfNone, IfOk, IfSome, IsTrue, length, ℕ};
 ghost use Rattle.std.specs.Prelude.{false, slice_get, OnErr, OnOk, Some, true};
-ghost use Rattle.tql_value.specs.Views.{rows_of};
 ghost use Rattle.tql_exec_join.specs.Digest.{digest as digest_from};
 ghost use Rattle.tql_exec_numbered.specs.Numbered.{seen};
 ghost use Rattle.tql_exec_numbered.specs.Runs.{numbers_in, AreRuns};
 ghost use Rattle.tql_exec_numbered.specs.Slots.{first_place as place_of, free_from, is_kept, is_reached, AreFiled};
 
-use crate::cells::{agree, copied, digest_of, digest_of_values};
+use crate::cells::{agree, digest_of, mixed};
+use crate::rows::Rows;
 use crate::runs::{add, find};
 use std::alloc::AllocError;
 use std::marker::Model;
@@ -21,42 +22,39 @@ use tql_value::refusal::Refusal;
 use tql_value::value::{Value, View};
 
 /// The maximum number of slots that a look-up reads.
-const WINDOW: usize = 16;
+const WINDOW: usize = 32;
 
 /// The number of slots of the smallest table.
 const FEWEST: usize = 64;
 
-/// Returns the first slot of a digest, in a table of this number of slots. If that number is a power of two, these are
-/// high bits of the digest.
+/// Returns the first slot of a digest, in a table of this number of slots. The digest is mixed once more, since digests
+/// of numbers in steps are in steps too, and would be crowded in a part of the table.
 #[inline(always)]
 fn first_place(size: usize, digest: u64) -> usize
     ensures { result ≡ place_of size digest }
 {
-    ((digest >> 32) as usize) & size.saturating_sub(1)
+    ((mixed(0, digest ^ (digest >> 32)) >> 32) as usize) & size.saturating_sub(1)
 }
 
-/// Whether the row with a number equals this row.
+/// Whether the row with a number equals this row, which has this digest. Rows with other digests are not compared.
 #[inline(always)]
-fn agrees_at(rows: &[Vec<Value, Memory>], number: usize, row: &[View<'_>]) -> bool
-    ensures { IsTrue result ↔ (slice_get (rows_of rows.now) number ≡ Some (seen row.now)) }
+fn agrees_at(rows: &Rows, number: usize, digest: u64, row: &[View<'_>]) -> bool
+    requires { digest ≡ digest_from 0 (seen row.now) }
+    ensures { IsTrue result ↔ (slice_get rows.now number ≡ Some (seen row.now)) }
 {
-    match rows.get(number) {
-        Some(values) => agree(values.as_slice(), row),
+    match rows.digest_at(number) {
+        Some(known) => known == digest && agree(rows.at(number), row),
         None => false,
     }
 }
 
 /// Returns the number of a row with this digest, if it is in one of its slots.
 #[inline(always)]
-fn met_number(
-    rows: &[Vec<Value, Memory>],
-    slots: &[usize],
-    digest: u64,
-    row: &[View<'_>],
-) -> Option<usize>
-    ensures some { IfSome result (λ n. slice_get (rows_of rows.now) n ≡ Some (seen row.now)) }
-    ensures none { IfNone result ((n : ℕ) → slice_get (rows_of rows.now) n ≡ Some (seen row.now)
-        → is_reached 16 slots.now (place_of (length slots.now) digest) n ≡ false) }
+fn met_number(rows: &Rows, slots: &[u32], digest: u64, row: &[View<'_>]) -> Option<usize>
+    requires { digest ≡ digest_from 0 (seen row.now) }
+    ensures some { IfSome result (λ n. slice_get rows.now n ≡ Some (seen row.now)) }
+    ensures none { IfNone result ((n : ℕ) → slice_get rows.now n ≡ Some (seen row.now)
+        → is_reached 32 slots.now (place_of (length slots.now) digest) n ≡ false) }
 {
     let mut at = first_place(slots.len(), digest);
     for _step in 0..WINDOW {
@@ -66,8 +64,9 @@ fn met_number(
         if *slot == 0 {
             return None;
         }
-        if agrees_at(rows, *slot - 1, row) {
-            return Some(*slot - 1);
+        let number = *slot as usize - 1;
+        if agrees_at(rows, number, digest, row) {
+            return Some(number);
         }
         at += 1;
     }
@@ -77,16 +76,16 @@ fn met_number(
 /// Returns the number of a row with this digest, if it is among the rows.
 #[inline(always)]
 fn number_of(
-    rows: &[Vec<Value, Memory>],
-    slots: &[usize],
+    rows: &Rows,
+    slots: &[u32],
     runs: &[Vec<usize, Memory>],
     digest: u64,
     row: &[View<'_>],
 ) -> Option<usize>
-    requires filed { AreFiled (rows_of rows.now) slots.now (numbers_in runs.now) }
+    requires filed { AreFiled rows.now slots.now (numbers_in runs.now) }
     requires digest { digest ≡ digest_from 0 (seen row.now) }
-    ensures some { IfSome result (λ n. slice_get (rows_of rows.now) n ≡ Some (seen row.now)) }
-    ensures none { IfNone result ((n : ℕ) → slice_get (rows_of rows.now) n ≢ Some (seen row.now)) }
+    ensures some { IfSome result (λ n. slice_get rows.now n ≡ Some (seen row.now)) }
+    ensures none { IfNone result ((n : ℕ) → slice_get rows.now n ≢ Some (seen row.now)) }
 {
     match met_number(rows, slots, digest, row) {
         Some(number) => Some(number),
@@ -95,8 +94,8 @@ fn number_of(
 }
 
 /// Returns the first empty slot for a row with this digest.
-fn free_place(slots: &[usize], digest: u64) -> Option<usize>
-    ensures found { result ≡ free_from 16 slots.now (place_of (length slots.now) digest) }
+fn free_place(slots: &[u32], digest: u64) -> Option<usize>
+    ensures found { result ≡ free_from 32 slots.now (place_of (length slots.now) digest) }
     ensures within { IfSome result (λ p. p < length slots.now) }
 {
     let mut at = first_place(slots.len(), digest);
@@ -112,21 +111,22 @@ fn free_place(slots: &[usize], digest: u64) -> Option<usize>
     None
 }
 
-/// Writes the number of a row with this digest into the first empty slot for it, or adds it to the runs if all of its
-/// slots are taken. The only error is a refused allocation, and leaves both as they were.
+/// Writes the number of a row with this digest into the first empty slot for it. Where all of its slots are taken, or
+/// the number does not fit into a slot, it is added to the runs. The only error is a refused allocation, and leaves
+/// both as they were.
 fn file(
     memory: Memory,
-    rows: &[Vec<Value, Memory>],
-    slots: &mut Vec<usize, Memory>,
+    rows: &Rows,
+    slots: &mut Vec<u32, Memory>,
     runs: &mut Vec<Vec<usize, Memory>, Memory>,
     digest: u64,
     number: usize,
 ) -> Result<(), AllocError>
     requires small { number + 1 < 2 ^ 64 }
-    requires number { number < length (rows_of rows.now) }
-    requires runs { AreRuns (rows_of rows.now) (numbers_in runs.old.items) }
+    requires number { number < length rows.now }
+    requires runs { AreRuns rows.now (numbers_in runs.old.items) }
     ensures len { length slots.new.items ≡ length slots.old.items }
-    ensures runs { AreRuns (rows_of rows.now) (numbers_in runs.new.items) }
+    ensures runs { AreRuns rows.now (numbers_in runs.new.items) }
     ensures filed { OnOk result (is_kept slots.new.items (numbers_in runs.new.items)
         (place_of (length slots.old.items) digest) number ≡ true) }
     ensures kept { (at n : ℕ) → is_kept slots.old.items (numbers_in runs.old.items) at n ≡ true
@@ -134,34 +134,32 @@ fn file(
     ensures slots { OnErr result (slots.new.items ≡ slots.old.items) }
     ensures err { OnErr result (runs.new.items ≡ runs.old.items) }
 {
-    match free_place(slots.as_slice(), digest) {
-        Some(at) => {
-            slots[at] = number + 1;
+    match (
+        free_place(slots.as_slice(), digest),
+        u32::try_from(number + 1),
+    ) {
+        (Some(at), Ok(slot)) => {
+            slots[at] = slot;
             Ok(())
         }
-        None => add(memory, rows, runs, number),
+        _ => add(memory, rows, runs, number),
     }
 }
 
 /// Files all rows. The only error is a refused allocation.
 fn file_all(
     memory: Memory,
-    rows: &[Vec<Value, Memory>],
-    slots: &mut Vec<usize, Memory>,
+    rows: &Rows,
+    slots: &mut Vec<u32, Memory>,
     runs: &mut Vec<Vec<usize, Memory>, Memory>,
 ) -> Result<(), AllocError>
-    requires { AreRuns (rows_of rows.now) (numbers_in runs.old.items) }
-    ensures { OnOk result (AreFiled (rows_of rows.now) slots.new.items (numbers_in runs.new.items)) }
+    requires { AreRuns rows.now (numbers_in runs.old.items) }
+    ensures { OnOk result (AreFiled rows.now slots.new.items (numbers_in runs.new.items)) }
 {
-    for (number, row) in rows.iter().enumerate() {
-        file(
-            memory,
-            rows,
-            slots,
-            runs,
-            digest_of_values(row.as_slice()),
-            number,
-        )?;
+    let mut number = 0;
+    while let Some(digest) = rows.digest_at(number) {
+        file(memory, rows, slots, runs, digest, number)?;
+        number += 1;
     }
     Ok(())
 }
@@ -170,23 +168,22 @@ fn file_all(
 /// which they first came.
 pub struct Numbered {
     memory: Memory,
-    rows: Vec<Vec<Value, Memory>, Memory>,
-    slots: Vec<usize, Memory>,
+    rows: Rows,
+    slots: Vec<u32, Memory>,
     runs: Vec<Vec<usize, Memory>, Memory>,
 }
 
 impl Model for Numbered {
     ghost use Rattle.std.specs.Prelude.{List};
     ghost use Rattle.tql_spec.specs.Datum.{Row};
-    ghost use Rattle.tql_value.specs.Views.{rows_of};
     ghost use Rattle.tql_exec_numbered.specs.Runs.{numbers_in};
     ghost use Rattle.tql_exec_numbered.specs.Slots.{AreFiled};
 
     ghost Value = { List Row };
 
-    ghost view = { λ n. rows_of n.rows.items };
+    ghost view = { λ n. n.rows };
 
-    ghost invariant = { λ n. AreFiled (rows_of n.rows.items) n.slots.items (numbers_in n.runs.items) };
+    ghost invariant = { λ n. AreFiled n.rows n.slots.items (numbers_in n.runs.items) };
 }
 
 impl Drop for Numbered {
@@ -216,7 +213,7 @@ impl Numbered {
     {
         Numbered {
             memory,
-            rows: Vec::new(memory),
+            rows: Rows::new(memory),
             slots: Vec::new(memory),
             runs: Vec::new(memory),
         }
@@ -234,7 +231,7 @@ impl Numbered {
         requires { number < length self.now }
         ensures { row_of result.now ≡ slice_index_or self.now number [] }
     {
-        &self.rows[number]
+        self.rows.at(number)
     }
 
     /// Makes room in the table for one more row, so that half of the slots stay empty. The only error is a refused
@@ -246,10 +243,10 @@ impl Numbered {
             return Ok(());
         }
         let size = self.slots.len().saturating_mul(4).max(FEWEST);
-        let mut slots: Vec<usize, Memory> = Vec::new(self.memory);
+        let mut slots: Vec<u32, Memory> = Vec::new(self.memory);
         slots.resize(size, 0)?;
         let mut runs: Vec<Vec<usize, Memory>, Memory> = Vec::new(self.memory);
-        file_all(self.memory, self.rows.as_slice(), &mut slots, &mut runs)?;
+        file_all(self.memory, &self.rows, &mut slots, &mut runs)?;
         self.slots = slots;
         self.runs = runs;
         Ok(())
@@ -265,13 +262,12 @@ impl Numbered {
         ensures err { OnErr result (self.new ≡ self.old) }
         ensures memory { IfErr result (λ e. e ≡ Refusal.OutOfMemory) }
     {
-        let values = copied(self.memory, row)?;
         self.make_room()?;
         let number = self.rows.len();
-        self.rows.push(values)?;
+        self.rows.push(self.memory, digest, row)?;
         let filed = file(
             self.memory,
-            self.rows.as_slice(),
+            &self.rows,
             &mut self.slots,
             &mut self.runs,
             digest,
@@ -280,7 +276,7 @@ impl Numbered {
         match filed {
             Ok(()) => Ok(number),
             Err(refused) => {
-                drop(self.rows.pop());
+                self.rows.pop();
                 Err(Refusal::from(refused))
             }
         }
@@ -297,7 +293,7 @@ impl Numbered {
     {
         let digest = digest_of(row);
         let number = number_of(
-            self.rows.as_slice(),
+            &self.rows,
             self.slots.as_slice(),
             self.runs.as_slice(),
             digest,
@@ -309,16 +305,18 @@ impl Numbered {
         }
     }
 
-    /// Returns the rows.
-    pub fn into_rows(self) -> Vec<Vec<Value, Memory>, Memory>
-        ensures { rows_of result.items ≡ self }
+    /// Returns each row in a list of its own. The only error is a refused allocation.
+    pub fn into_rows(self) -> Result<Vec<Vec<Value, Memory>, Memory>, AllocError>
+        ensures { IfOk result (λ v. rows_of v.items ≡ self) }
     {
         let Numbered {
-            memory: _,
+            memory,
             rows,
-            slots: _,
-            runs: _,
+            slots,
+            runs,
         } = self;
-        rows
+        drop(slots);
+        drop(runs);
+        rows.into_rows(memory)
     }
 }

@@ -5,51 +5,35 @@
 ghost use Rattle.std.specs.Prelude.{◌≡◌, ◌≢◌, ◌++◌, ◌∷◌, [], ◌<◌, ◌≤◌, ◌||◌, ℕ, IfNone, IfOk, IfSome, OnErr, OnOk};
 ghost use Rattle.std.specs.Prelude.{length, slice_get, Some, take, true};
 ghost use Rattle.std.specs.List.Sorted.{IsPermutation};
-ghost use Rattle.tql_value.specs.Views.{row_of, rows_of};
 ghost use Rattle.tql_exec_numbered.specs.Numbered.{seen};
-ghost use Rattle.tql_exec_numbered.specs.Runs.{has_number, is_in_runs, numbers_in, row_at};
+ghost use Rattle.tql_exec_numbered.specs.Runs.{has_number, is_in_runs, numbers_in};
 ghost use Rattle.tql_exec_numbered.specs.Runs.{AreBelow, AreInOrder, AreRuns, IsRun};
 
 use crate::cells::{compare, compare_seen};
+use crate::rows::Rows;
 use std::alloc::AllocError;
 use tql_memory::Memory;
-use tql_value::value::{Value, View};
-
-/// Returns the values of the row with a number.
-fn values_at(rows: &[Vec<Value, Memory>], number: usize) -> &[Value]
-    ensures { row_of result.now ≡ row_at (rows_of rows.now) number }
-{
-    match rows.get(number) {
-        Some(values) => values.as_slice(),
-        None => &[],
-    }
-}
+use tql_value::value::View;
 
 /// Returns the number of this row, if it is in a run.
-fn find_in(rows: &[Vec<Value, Memory>], run: &[usize], row: &[View<'_>]) -> Option<usize>
-    ensures some { IsRun (rows_of rows.now) run.now
-        → IfSome result (λ n. slice_get (rows_of rows.now) n ≡ Some (seen row.now)) }
-    ensures none { IsRun (rows_of rows.now) run.now
-        → IfNone result ((n : ℕ) → has_number n run.now ≡ true
-        → slice_get (rows_of rows.now) n ≢ Some (seen row.now)) }
+fn find_in(rows: &Rows, run: &[usize], row: &[View<'_>]) -> Option<usize>
+    ensures some { IsRun rows.now run.now → IfSome result (λ n. slice_get rows.now n ≡ Some (seen row.now)) }
+    ensures none { IsRun rows.now run.now → IfNone result ((n : ℕ) → has_number n run.now ≡ true
+        → slice_get rows.now n ≢ Some (seen row.now)) }
 {
-    match run.binary_search_by(|number| compare_seen(values_at(rows, *number), row)) {
+    match run.binary_search_by(|number| compare_seen(rows.at(*number), row)) {
         Ok(at) => Some(run[at]),
         Err(_) => None,
     }
 }
 
 /// Returns the number of this row, if it is in one of several runs.
-pub(crate) fn find(
-    rows: &[Vec<Value, Memory>],
-    runs: &[Vec<usize, Memory>],
-    row: &[View<'_>],
-) -> Option<usize>
-    ensures some { AreRuns (rows_of rows.now) (numbers_in runs.now)
-        → IfSome result (λ n. slice_get (rows_of rows.now) n ≡ Some (seen row.now)) }
-    ensures none { AreRuns (rows_of rows.now) (numbers_in runs.now)
+pub(crate) fn find(rows: &Rows, runs: &[Vec<usize, Memory>], row: &[View<'_>]) -> Option<usize>
+    ensures some { AreRuns rows.now (numbers_in runs.now)
+        → IfSome result (λ n. slice_get rows.now n ≡ Some (seen row.now)) }
+    ensures none { AreRuns rows.now (numbers_in runs.now)
         → IfNone result ((n : ℕ) → is_in_runs n (numbers_in runs.now) ≡ true
-        → slice_get (rows_of rows.now) n ≢ Some (seen row.now)) }
+        → slice_get rows.now n ≢ Some (seen row.now)) }
 {
     match runs.split_first() {
         None => None,
@@ -80,11 +64,11 @@ fn join(runs: &[Vec<usize, Memory>], run: &mut Vec<usize, Memory>) -> Result<usi
 }
 
 /// Sorts row numbers by the rows with these numbers.
-fn sort(rows: &[Vec<Value, Memory>], run: &mut Vec<usize, Memory>)
-    ensures sorted { AreInOrder (rows_of rows.now) run.new.items }
+fn sort(rows: &Rows, run: &mut Vec<usize, Memory>)
+    ensures sorted { AreInOrder rows.now run.new.items }
     ensures same { IsPermutation run.old.items run.new.items }
 {
-    run.sort_unstable_by(|a, b| compare(values_at(rows, *a), values_at(rows, *b)));
+    run.sort_unstable_by(|a, b| compare(rows.at(*a), rows.at(*b)));
 }
 
 /// Replaces all but the first `stay` runs by a run. The only error is a refused allocation, and leaves the runs as they
@@ -110,13 +94,13 @@ fn put_behind(
 /// Adds a row number to the runs. The only error is a refused allocation, and leaves the runs as they were.
 pub(crate) fn add(
     memory: Memory,
-    rows: &[Vec<Value, Memory>],
+    rows: &Rows,
     runs: &mut Vec<Vec<usize, Memory>, Memory>,
     number: usize,
 ) -> Result<(), AllocError>
-    requires runs { AreRuns (rows_of rows.now) (numbers_in runs.old.items) }
-    requires number { number < length (rows_of rows.now) }
-    ensures runs { AreRuns (rows_of rows.now) (numbers_in runs.new.items) }
+    requires runs { AreRuns rows.now (numbers_in runs.old.items) }
+    requires number { number < length rows.now }
+    ensures runs { AreRuns rows.now (numbers_in runs.new.items) }
     ensures added { OnOk result (is_in_runs number (numbers_in runs.new.items) ≡ true) }
     ensures kept { (n : ℕ) → is_in_runs n (numbers_in runs.old.items) ≡ true
         → is_in_runs n (numbers_in runs.new.items) ≡ true }

@@ -1,37 +1,43 @@
 -- One more row is filed.
-use Rattle.std.proofs.Common.{◌≡◌, ◌<◌, ap, arith, length, refl, ◌∙◌}
-use Rattle.std.specs.Prelude.{Some, option_map, slice_get}
-use Rattle.std.proofs.lemmas.List.{length-map}
-use Rattle.std.proofs.lemmas.Option.{slice_get-map, slice_get_read, slice_get_within}
-use Rattle.tql_value.specs.Views.{row_of, rows_of}
-use Rattle.tql_exec_join.specs.Digest.{digest}
-use Rattle.tql_exec_numbered.specs.Runs.{numbers_in}
-use Rattle.tql_exec_numbered.proofs.Filed.{one_more_filed}
+use Rattle.std.proofs.Common.{◌≤◌, ◌<◌, ◌∙◌, arith, length, sym}
+use Rattle.std.proofs.lemmas.Option.{slice_get_within}
+use Rattle.tql_exec_numbered.specs.Runs.{numbers_in, row_at}
+use Rattle.tql_exec_numbered.proofs.Filed.{one_more_filed, with_digest, without_digest}
 use Rattle.tql_exec_numbered.proofs.numbered.file_all.Goals as goal
 
-pub loop-number-preserved : goal.loop-number-preserved
-loop-number-preserved c =
-    let vecs = c.args.rows.now in
-    let k = c.loop-number.number in
-    let item = c.index-rows-number.result in
-    let got : slice_get (rows_of vecs) k ≡ Some (row_of item.items) =
-    slice_get-map (λ r. row_of r.items) vecs k
-    ∙ ap (option_map (λ r. row_of r.items))
-    (slice_get_read vecs (length vecs) k item refl c.loop-number-test.true c.index-rows-number.is) in (
+pub file-requires-clause-number : goal.file-requires-clause-number
+file-requires-clause-number c =
+    let rows = c.args.rows.now in
+    let k = c.loop-digest.number in
+    slice_get_within rows k (row_at rows k)
+    (with_digest rows k c.in-Some.digest (sym c.digest_at.ensures.digest ∙ c.in-Some.is)).0
+
+pub loop-digest-smaller : goal.loop-digest-smaller
+loop-digest-smaller c =
+    let rows = c.args.rows.now in
+    let k = c.loop-digest.number in
+    let within : k < length rows = slice_get_within rows k (row_at rows k)
+    (with_digest rows k c.in-Some.digest (sym c.digest_at.ensures.digest ∙ c.in-Some.is)).0 in
+    omega (arith, within)
+
+pub loop-digest-preserved : goal.loop-digest-preserved
+loop-digest-preserved c =
+    let rows = c.args.rows.now in
+    let k = c.loop-digest.number in
+    let found = with_digest rows k c.in-Some.digest (sym c.digest_at.ensures.digest ∙ c.in-Some.is) in (
       c.file.ensures.runs,
-      one_more_filed (rows_of vecs) c.loop-number.slots.items c.file.new.slots.items
-          (numbers_in c.loop-number.runs.items) (numbers_in c.file.new.runs.items) k c.digest_of_values.result
-          (row_of item.items) got
-          (c.digest_of_values.ensures ∙ ap (λ vs. digest 0 (row_of vs)) c.as_slice.ensures.value) c.file.ensures.len
-          c.in_ok-file.ensures.filed c.file.ensures.kept c.loop-number.invariant.1,
+      one_more_filed rows c.loop-digest.slots.items c.file.new.slots.items
+          (numbers_in c.loop-digest.runs.items) (numbers_in c.file.new.runs.items) k c.in-Some.digest (row_at rows k)
+          found.0 found.1 c.file.ensures.len c.in_ok-file.ensures.filed c.file.ensures.kept c.loop-digest.invariant.1,
     )
 
 pub returns : goal.returns
 returns c = (
-  c.loop-number.invariant.0,
+  c.loop-digest.invariant.0,
   λ n row got.
-      let within : n < length (rows_of c.args.rows.now) = slice_get_within (rows_of c.args.rows.now) n row got in
-      let same : length (rows_of c.args.rows.now) ≡ length c.args.rows.now =
-      length-map c.args.rows.now (λ r. row_of r.items) in
-      c.loop-number.invariant.1 n row (omega arith) got,
+      let rows = c.args.rows.now in
+      let within : n < length rows = slice_get_within rows n row got in
+      let all : length rows ≤ c.loop-digest.number =
+      without_digest rows c.loop-digest.number (sym c.digest_at.ensures.digest ∙ c.in_default.is) in
+      c.loop-digest.invariant.1 n row (omega (arith, within, all)) got,
 )

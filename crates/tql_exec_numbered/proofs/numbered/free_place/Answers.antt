@@ -11,7 +11,7 @@ pub returns-in_default-clause-found : goal.returns-in_default-clause-found
 returns-in_default-clause-found c =
     let slots = c.args.slots.now in
     let at = c.loop-step.at in
-    let more = 16 - c.loop-step._step in
+    let more = 32 - c.loop-step._step in
     let some : 0 < more = omega (arith, c.loop-step-test.true) in
     let k = c.in_default.ensures.lookup in
     sym (free_nowhere slots more at some (slice_get_past slots at (ltb-false at (length slots) (sym k.0))))
@@ -21,7 +21,7 @@ pub returns-then-slot-eq0-clause-found : goal.returns-then-slot-eq0-clause-found
 returns-then-slot-eq0-clause-found c =
     let slots = c.args.slots.now in
     let at = c.loop-step.at in
-    let more = 16 - c.loop-step._step in
+    let more = 32 - c.loop-step._step in
     let some : 0 < more = omega (arith, c.loop-step-test.true) in
     let k = c.in-Some.ensures.lookup in
     let here : slice_get slots at ≡ Some c.in-Some.slot.now =
@@ -33,12 +33,12 @@ loop-step-preserved c =
     let slots = c.args.slots.now in
     let at = c.loop-step.at in
     let slot = c.in-Some.slot.now in
-    let more = 16 - c.loop-step._step in
+    let more = 32 - c.loop-step._step in
     let some : 0 < more = omega (arith, c.loop-step-test.true) in
     let full : 0 < slot = omega (arith, c.if-slot-eq0.false) in
     let k = c.in-Some.ensures.lookup in
     let here : slice_get slots at ≡ Some slot =
     slice_get_read slots (length slots) at slot refl (ltb-true at (length slots) (sym k.0)) k.1 in
-    let less : 16 - (c.loop-step._step + 1) ≡ more - 1 = omega arith in
+    let less : 32 - (c.loop-step._step + 1) ≡ more - 1 = omega arith in
     ap (λ m. free_from m slots (at + 1)) less
     ∙ sym (free_later slots more at (slot - 1) some (here ∙ ap Some (one_less slots slot full))) ∙ c.loop-step.invariant

@@ -3,14 +3,13 @@ use Rattle.std.proofs.Common.{◌∙◌, ◌∷◌, ap, subst, sym, ⊎_elim}
 use Rattle.std.specs.Prelude.{List, ℕ}
 use Rattle.std.proofs.lemmas.Bool.{or_cases}
 use Rattle.std.proofs.lemmas.List.Elements.{All-head, All-tail}
-use Rattle.tql_value.specs.Views.{rows_of}
 use Rattle.tql_exec_numbered.specs.Runs.{has_number, is_in_runs, numbers_in, AreRuns, IsRun}
 use Rattle.tql_exec_numbered.proofs.Joined.{none_weaker}
 use Rattle.tql_exec_numbered.proofs.runs.+find.Goals as goal
 
 pub returns-in-Some-find_in-clause-some : goal.returns-in-Some-find_in-clause-some
 returns-in-Some-find_in-clause-some t c = λ are.
-    let rows = rows_of c.args.rows.now in
+    let rows = c.args.rows.now in
     let first : List ℕ = c.in-Some.run'.now.items in
     let others = numbers_in c.in-Some.others.now in
     let all : AreRuns rows (first ∷ others) =
@@ -20,7 +19,7 @@ returns-in-Some-find_in-clause-some t c = λ are.
 
 pub returns-in-None-find_in-clause-some : goal.returns-in-None-find_in-clause-some
 returns-in-None-find_in-clause-some t c = λ are.
-    let rows = rows_of c.args.rows.now in
+    let rows = c.args.rows.now in
     let first : List ℕ = c.in-Some.run'.now.items in
     let others = numbers_in c.in-Some.others.now in
     let all : AreRuns rows (first ∷ others) =
@@ -29,7 +28,7 @@ returns-in-None-find_in-clause-some t c = λ are.
 
 pub returns-in-None-find_in-clause-none : goal.returns-in-None-find_in-clause-none
 returns-in-None-find_in-clause-none t c = λ are.
-    let rows = rows_of c.args.rows.now in
+    let rows = c.args.rows.now in
     let first : List ℕ = c.in-Some.run'.now.items in
     let others = numbers_in c.in-Some.others.now in
     let all : AreRuns rows (first ∷ others) =

@@ -4,14 +4,13 @@ use Rattle.std.proofs.lemmas.Bool.{or_right}
 use Rattle.std.proofs.lemmas.List.Elements.{All-cons, All-nil}
 use Rattle.std.proofs.lemmas.List.Sorted.{All-permutation}
 use Rattle.std.proofs.lemmas.Result.{on_ok_weaker}
-use Rattle.tql_value.specs.Views.{rows_of}
 use Rattle.tql_exec_numbered.specs.Runs.{has_number, is_in_runs, numbers_in, AreBelow, AreRuns, IsRun}
 use Rattle.tql_exec_numbered.proofs.Joined.{alone, are_runs_behind, below_in, by_outcome, kept_behind, numbers_behind}
 use Rattle.tql_exec_numbered.proofs.runs.add.Goals as goal
 
 pub returns-clause-runs : goal.returns-clause-runs
 returns-clause-runs c =
-    let rows = rows_of c.args.rows.now in
+    let rows = c.args.rows.now in
     let vs = c.args.runs.now.items in
     let rs = numbers_in vs in
     let news = c.put_behind.new.runs.items in

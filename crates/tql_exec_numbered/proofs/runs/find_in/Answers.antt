@@ -1,14 +1,13 @@
 -- What halving finds, and that nothing else is there.
 use Rattle.std.proofs.Common.{rules}
 use Rattle.std.proofs.lemmas.Fn.{always_returns_same}
-use Rattle.tql_value.specs.Views.{rows_of}
 use Rattle.tql_exec_numbered.specs.Numbered.{seen}
 use Rattle.tql_exec_numbered.proofs.Searched.{absent, by_row, found_at}
 use Rattle.tql_exec_numbered.proofs.runs.find_in.Goals as goal
 
 pub returns-in-Ok-clause-some : goal.returns-in-Ok-clause-some
 returns-in-Ok-clause-some c = λ is.
-    let rows = rows_of c.args.rows.now in
+    let rows = c.args.rows.now in
     let x = seen c.args.row.now in
     let ends = c.in-Ok.ensures.position (by_row rows x)
     (always_returns_same _ _ _ (λ a r f' k. (search rules, search rules))) in
@@ -16,7 +15,7 @@ returns-in-Ok-clause-some c = λ is.
 
 pub returns-in-Err-clause-none : goal.returns-in-Err-clause-none
 returns-in-Err-clause-none c = λ is.
-    let rows = rows_of c.args.rows.now in
+    let rows = c.args.rows.now in
     let x = seen c.args.row.now in
     let ends = c.in-Err.ensures.position (by_row rows x)
     (always_returns_same _ _ _ (λ a r f' k. (search rules, search rules))) in
