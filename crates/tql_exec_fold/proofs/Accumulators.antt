@@ -1,14 +1,16 @@
 -- One more row in an accumulator.
-use Rattle.std.specs.Prelude.{◌≡◌, refl, ℕ, ◌+◌, ◌-◌, ◌<◌, ◌≤◌, ◌^◌, Bool, true, false, List, [], ◌∷◌, ◌++◌, length}
+use Rattle.std.specs.Prelude.{◌≡◌, refl, ℕ, zero, suc, ℤ, ◌+ℤ◌, ◌+◌, ◌-◌, ◌<◌, ◌≤◌, ◌^◌, Bool, true, false, List}
+use Rattle.std.specs.Prelude.{[], ◌∷◌, ◌++◌, length}
 use Rattle.std.specs.Prelude.{nat_eq, Option, Some, None, pos, if◌then◌else◌, Result, Ok, Err, IfOk}
 use Rattle.std.specs.Prelude.{IfErr, MatchResult}
 use Rattle.std.proofs.Common.{sym, ap, subst, append_assoc, append-nil, ◌∙◌, arith}
 use Rattle.std.proofs.Math.Bool.{◌||◌}
 use Rattle.std.proofs.lemmas.Bool.{eqb-true}
+use Rattle.std.proofs.lemmas.Int.{ints}
 use Rattle.std.proofs.lemmas.List.{length-append}
 use Rattle.tql_spec.specs.Words.{◌>>=◌, map_all, with_front}
-use Rattle.tql_spec.specs.Datum.{Datum, Row, fits}
-use Rattle.tql_spec.specs.Expression.{aggregate, best, eval, Expr, present}
+use Rattle.tql_spec.specs.Datum.{Datum, Row, Null, Int, Text, Day, Moment, exact, fits, is_null}
+use Rattle.tql_spec.specs.Expression.{aggregate, best, eval, Expr, present, total}
 use Rattle.tql_spec.specs.Expression as bound
 use Rattle.tql_value.specs.declared.refusal.Refusal.{Refusal}
 use Rattle.tql_value.specs.declared.refusal.Refusal.TheVariants.{OutOfMemory}
@@ -19,7 +21,7 @@ use Rattle.tql_expr.specs.declared.terms.Aggregate.{Aggregate}
 use Rattle.tql_expr.specs.declared.terms.Aggregate.TheVariants.{Rows, Over}
 use Rattle.tql_expr.specs.declared.terms.ExprId.{ExprId}
 use Rattle.tql_expr.specs.declared.terms.Terms.{Terms}
-use Rattle.tql_exec_fold.specs.Folds.{is_better, of_present, the_better}
+use Rattle.tql_exec_fold.specs.Folds.{added, is_better, of_present, sum_behind, sum_of, the_better}
 use Rattle.tql_exec_fold.specs.Folded.{after, rest_of, HasFolded, IsOut, Takes}
 use Rattle.tql_exec_fold.specs.declared.fold.Accumulator.{Accumulator}
 use Rattle.tql_exec_fold.proofs.Bests.{one_better, over_few, too_great}
@@ -149,6 +151,53 @@ pub one_kept : (greatest : Bool) (b b' v : Datum) → b' ≡ the_better greatest
     (Some (best (is_better greatest) (after b (present (v ∷ vs)))))
 one_kept greatest b b' v is vs = ap {B = Option Datum} (λ d. Some d)
     (ap (λ d. best (is_better greatest) (present (d ∷ vs))) is ∙ one_better greatest b v vs)
+
+-- the sum of values so far, before others
+some_behind : (n : ℕ) (s : ℤ) (xs : List Datum) → 0 < n → sum_behind (sum_of n s) xs ≡ exact (s +ℤ total xs)
+some_behind zero s xs l = absurd (omega arith)
+some_behind (suc n) s xs l = refl
+
+before_one : (n : ℕ) (s : ℤ) (x : Datum) (xs : List Datum) → (n ≡ 0 → s ≡ pos 0)
+    → sum_behind (sum_of n s) (x ∷ xs) ≡ exact (s +ℤ total (x ∷ xs))
+before_one zero s x xs none =
+    let nothing : s ≡ pos 0 = none refl in
+    let same : total (x ∷ xs) ≡ s +ℤ total (x ∷ xs) = omega (arith, ints, nothing) in
+    ap exact same
+before_one (suc n) s x xs none = refl
+
+-- the sum with one more value is that of the values so far and this one
+pub one_summed : (n n' : ℕ) (s s' : ℤ) (v : Datum) → (n ≡ 0 → s ≡ pos 0) → n' ≡ (if is_null v then n else n + 1)
+    → Some s' ≡ added (Some s) v → (vs : List Datum)
+    → sum_behind (sum_of n' s') (present vs) ≡ sum_behind (sum_of n s) (present (v ∷ vs))
+one_summed n n' s s' Null none is next vs =
+    let same : s' ≡ s = cc in
+    ap (λ k. sum_behind (sum_of k s') (present vs)) is ∙ ap (λ z. sum_behind (sum_of n z) (present vs)) same
+one_summed n n' s s' (Int m) none is next vs =
+    let more : s' ≡ s +ℤ m = cc in
+    let all : s' +ℤ total (present vs) ≡ s +ℤ (m +ℤ total (present vs)) = omega (arith, ints, more) in
+    some_behind n' s' (present vs) (omega (arith, is)) ∙ ap exact all ∙ sym (before_one n s (Int m) (present vs) none)
+one_summed n n' s s' (Text t) none is next vs =
+    let same : s' ≡ s = cc in
+    some_behind n' s' (present vs) (omega (arith, is)) ∙ ap (λ z. exact (z +ℤ total (present vs))) same
+    ∙ sym (before_one n s (Text t) (present vs) none)
+one_summed n n' s s' (Day d) none is next vs =
+    let same : s' ≡ s = cc in
+    some_behind n' s' (present vs) (omega (arith, is)) ∙ ap (λ z. exact (z +ℤ total (present vs))) same
+    ∙ sym (before_one n s (Day d) (present vs) none)
+one_summed n n' s s' (Moment m) none is next vs =
+    let same : s' ≡ s = cc in
+    some_behind n' s' (present vs) (omega (arith, is)) ∙ ap (λ z. exact (z +ℤ total (present vs))) same
+    ∙ sym (before_one n s (Moment m) (present vs) none)
+
+-- a sum of no values stays nothing
+pub none_summed : (n n' : ℕ) (s s' : ℤ) (v : Datum) → (n ≡ 0 → s ≡ pos 0)
+    → n' ≡ (if is_null v then n else n + 1) → Some s' ≡ added (Some s) v → n' ≡ 0 → s' ≡ pos 0
+none_summed n n' s s' Null none is next zeros =
+    let same : s' ≡ s = cc in same ∙ none (sym is ∙ zeros)
+none_summed n n' s s' (Int m) none is next zeros = absurd (omega (arith, is, zeros))
+none_summed n n' s s' (Text t) none is next zeros = absurd (omega (arith, is, zeros))
+none_summed n n' s s' (Day d) none is next zeros = absurd (omega (arith, is, zeros))
+none_summed n n' s s' (Moment m) none is next zeros = absurd (omega (arith, is, zeros))
 
 -- ---- the results
 

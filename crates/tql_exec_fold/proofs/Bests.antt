@@ -1,10 +1,9 @@
 -- The least or greatest value, and the sum, computed from the left.
 use Rattle.std.specs.Prelude.{◌≡◌, refl, ℕ, Bool, true, false, List, [], ◌∷◌, if◌then◌else◌, ℤ, pos, ◌+ℤ◌, Option}
-use Rattle.std.specs.Prelude.{Some, None, ◌+◌, ◌^◌, ◌<◌, ◌≤◌, neg_ℤ, ◌≤ℤ◌, ◌<ℤ◌, length}
+use Rattle.std.specs.Prelude.{Some, ◌+◌, ◌^◌, ◌<◌, ◌≤◌, neg_ℤ, ◌≤ℤ◌, ◌<ℤ◌, length}
 use Rattle.std.proofs.Common.{sym, ap, ◌∙◌, arith}
 use Rattle.std.proofs.lemmas.Int.{ints}
 use Rattle.std.proofs.lemmas.Bool.Decides.{nat_tests}
-use Rattle.std.specs.Option.{unwrap_or}
 use Rattle.std.specs.Cmp.{IsStrictWeakOrder}
 use Rattle.std.specs.Ordering.{is_lt, is_gt, ordering_reverse}
 use Rattle.std.specs.declared.cmp.Ordering.{Ordering}
@@ -94,7 +93,3 @@ too_great n h = grind (arith, nat_tests)
 pub over_few : (f : Function) (e : Expr) (rows : List Row) (row : Row) (o : Option Datum) → length rows < 2 ^ 63
     → o ≡ of_present (aggregate f) e rows → o ≡ eval rows row (Aggregate f e)
 over_few f e rows row o few is = is ∙ sym (simp (fits_small (length rows) few))
-
-pub unwrapped : (s : Option ℤ) → unwrap_or s (pos 0) ≡ so_far s
-unwrapped None = refl
-unwrapped (Some n) = refl

@@ -10,7 +10,7 @@ use Rattle.tql_expr.specs.Trees.{plain_function}
 use Rattle.tql_expr.specs.declared.terms.Aggregate.{Aggregate}
 use Rattle.tql_expr.specs.declared.terms.Aggregate.TheVariants.{Rows, Over}
 use Rattle.tql_expr.specs.declared.terms.Terms.{Terms}
-use Rattle.tql_exec_fold.specs.Folds.{is_better, of_present, sum_behind}
+use Rattle.tql_exec_fold.specs.Folds.{is_better, of_present, sum_behind, sum_of}
 use Rattle.tql_exec_fold.specs.declared.fold.Accumulator.{Accumulator}
 
 -- this value if it is not null, and these
@@ -20,7 +20,7 @@ after v vs = if not (is_null v) then v ∷ vs else vs
 -- the result of a function over the values so far and these, which are not null
 abbrev pub rest_of : Function → Accumulator → List Datum → Option Datum
 rest_of Count a vs = Some (Int (pos (a.values + length vs)))
-rest_of Sum a vs = sum_behind a.sum vs
+rest_of Sum a vs = sum_behind (sum_of a.values a.sum) vs
 rest_of Min a vs = Some (best (is_better false) (after (datum_of_value a.best) vs))
 rest_of Max a vs = Some (best (is_better true) (after (datum_of_value a.best) vs))
 

@@ -1,5 +1,6 @@
 -- The aggregate of a list of values, after the values so far.
-use Rattle.std.specs.Prelude.{ℕ, ◌*◌, ◌^◌, Bool, true, false, if◌then◌else◌, List, [], ◌∷◌, ℤ, pos, neg_ℤ, ◌+ℤ◌, ◌≤ℤ◌}
+use Rattle.std.specs.Prelude.{ℕ, zero, suc, ◌*◌, ◌^◌, Bool, true, false, if◌then◌else◌, List, [], ◌∷◌, ℤ, pos}
+use Rattle.std.specs.Prelude.{neg_ℤ, ◌+ℤ◌, ◌≤ℤ◌}
 use Rattle.std.specs.Prelude.{Option, Some, None}
 use Rattle.std.specs.Ordering.{is_lt, is_gt}
 use Rattle.tql_spec.specs.Words.{◌>>=◌, map_all}
@@ -11,6 +12,11 @@ abbrev pub sum_behind : Option ℤ → List Datum → Option Datum
 sum_behind None [] = Some Null
 sum_behind None (v ∷ vs) = exact (total (v ∷ vs))
 sum_behind (Some n) vs = exact (n +ℤ total vs)
+
+-- the sum of a number of values so far, None if there were none
+abbrev pub sum_of : ℕ → ℤ → Option ℤ
+sum_of zero s = None
+sum_of (suc n) s = Some s
 
 -- the sum so far as a number
 abbrev pub so_far : Option ℤ → ℤ

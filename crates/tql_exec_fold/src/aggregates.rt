@@ -1,38 +1,36 @@
 //! The steps of aggregates: one more value in a sum, and the better of two values (ISO/IEC 9075-2:2011, 10.9
 //! `<aggregate function>`).
-ghost use Rattle.std.specs.Prelude.{◌≡◌, ℕ, ◌^◌, ◌+◌, [], if◌then◌else◌};
+ghost use Rattle.std.specs.Prelude.{◌≡◌, ℕ, ◌^◌, ◌+◌, [], if◌then◌else◌, Some};
 ghost use Rattle.tql_value.specs.Views.{datum_of_view, outcome};
 ghost use Rattle.tql_spec.specs.Datum.{Int};
-ghost use Rattle.tql_exec_fold.specs.Folds.{added, is_better, IsWithin, sum_behind, the_better};
+ghost use Rattle.tql_exec_fold.specs.Folds.{added, is_better, IsWithin, sum_behind, sum_of, the_better};
 
 use tql_value::arithmetic::Range;
 use tql_value::comparison::order;
 use tql_value::value::View;
 
-/// Returns the running sum with one more value. None as long as all values were NULL.
-pub(crate) fn with_value(sum: Option<i128>, value: View<'_>) -> Option<i128>
-    requires { IsWithin (2 ^ 63) sum }
-    ensures is { result ≡ added sum (datum_of_view value.entry) }
-    ensures within { (n : ℕ) → IsWithin n sum → IsWithin (n + 1) result }
+/// Returns the running sum with one more value.
+pub(crate) fn with_value(sum: i128, value: View<'_>) -> i128
+    requires { IsWithin (2 ^ 63) (Some sum) }
+    ensures is { Some result ≡ added (Some sum) (datum_of_view value.entry) }
+    ensures within { (n : ℕ) → IsWithin n (Some sum) → IsWithin (n + 1) (Some result) }
 {
-    let so_far = sum.unwrap_or(0);
     match value {
-        View::Null => sum,
-        View::Int(number) => Some(so_far + i128::from(number)),
-        _ => Some(so_far),
+        View::Int(number) => sum + i128::from(number),
+        _ => sum,
     }
 }
 
-/// Returns the sum as a value: `Range` if it overflows 64 bits, NULL if all values were NULL.
-pub(crate) fn summed<'a>(sum: Option<i128>) -> Result<View<'a>, Range>
-    ensures { outcome result ≡ sum_behind sum [] }
+/// Returns the sum of a number of values as a value: `Range` if it overflows 64 bits, NULL if all values were NULL.
+pub(crate) fn summed<'a>(values: u64, sum: i128) -> Result<View<'a>, Range>
+    ensures { outcome result ≡ sum_behind (sum_of values sum) [] }
 {
-    match sum {
-        None => Ok(View::Null),
-        Some(sum) => match i64::try_from(sum) {
-            Ok(number) => Ok(View::Int(number)),
-            Err(_) => Err(Range),
-        },
+    if values == 0 {
+        return Ok(View::Null);
+    }
+    match i64::try_from(sum) {
+        Ok(number) => Ok(View::Int(number)),
+        Err(_) => Err(Range),
     }
 }
 

@@ -1,5 +1,5 @@
 //! Accumulators: an aggregate over rows that are taken one at a time, none of which is kept.
-ghost use Rattle.std.specs.Prelude.{◌≡◌, ◌+◌, ◌<◌, ◌≤◌, ◌^◌, MatchResult, if◌then◌else◌};
+ghost use Rattle.std.specs.Prelude.{◌≡◌, ◌+◌, ◌<◌, ◌≤◌, ◌^◌, MatchResult, if◌then◌else◌, pos, Some};
 ghost use Rattle.tql_spec.specs.Datum as pure;
 ghost use Rattle.tql_value.specs.Views.{datum_of_value, datum_of_view};
 ghost use Rattle.tql_exec_fold.specs.Folds.{IsWithin, the_better};
@@ -23,10 +23,10 @@ const MOST: u64 = 0x7fff_ffff_ffff_ffff;
 pub struct Accumulator {
     /// The number of rows, as long as the result is not out of range.
     rows: u64,
-    /// The number of rows on which the operand was not NULL.
+    /// The number of rows on which the operand was not NULL, for COUNT and SUM.
     values: u64,
-    /// The sum; `None` as long as all values were NULL.
-    sum: Option<i128>,
+    /// The sum; NULL as long as `values` is 0.
+    sum: i128,
     /// The least or the greatest value; NULL as long as all values were NULL.
     best: Value,
     /// Whether the result is out of range, whichever rows follow: the operand was out of range on some row, or there
@@ -34,7 +34,8 @@ pub struct Accumulator {
     is_out: bool,
     ghost few: { rows < 2 ^ 63 },
     ghost counted: { values ≤ rows },
-    ghost within: { IsWithin rows sum },
+    ghost within: { IsWithin rows (Some sum) },
+    ghost none: { values ≡ 0 → sum ≡ pos 0 },
 }
 
 impl Drop for Accumulator {
@@ -102,7 +103,7 @@ impl Accumulator {
         Accumulator {
             rows: 0,
             values: 0,
-            sum: None,
+            sum: 0,
             best: Value::Null,
             is_out: false,
         }
@@ -122,7 +123,10 @@ impl Accumulator {
         self.rows += 1;
         match function {
             Function::Count => self.values = with_count(self.values, value),
-            Function::Sum => self.sum = with_value(self.sum, value),
+            Function::Sum => {
+                self.sum = with_value(self.sum, value);
+                self.values = with_count(self.values, value);
+            }
             Function::Min => keep_better(memory, false, &mut self.best, value)?,
             Function::Max => keep_better(memory, true, &mut self.best, value)?,
         }
@@ -192,7 +196,7 @@ impl Accumulator {
     {
         match function {
             Function::Count => Ok(View::Int(self.values as i64)),
-            Function::Sum => summed(self.sum),
+            Function::Sum => summed(self.values, self.sum),
             Function::Min | Function::Max => Ok(self.best.view()),
         }
     }
