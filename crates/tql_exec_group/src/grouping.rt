@@ -361,9 +361,10 @@ impl<'q> Grouping<'q> {
             (map (expr self.now.terms.now) self.now.items.now)
             (scopes (Some self.now.columns.now) rows)) result }
     {
-        let mut made: Vec<Vec<Value, Memory>, Memory> = Vec::new(self.memory);
+        let groups = self.count(&state.keys);
+        let mut made: Vec<Vec<Value, Memory>, Memory> = Vec::with_capacity(self.memory, groups)?;
         let mut found: Vec<Found<'_>, Memory> = Vec::new(self.memory);
-        for number in 0..self.count(&state.keys) {
+        for number in 0..groups {
             self.add_numbered(state, number, &mut found, &mut made)?;
         }
         Ok(made)
