@@ -117,7 +117,8 @@ impl<I: IntervalIndex> Engine<I> {
 
     /// Returns an engine as `new` does, which keeps back a number of bytes from INSERT, UPDATE and CREATE TABLE. Any
     /// other statement that is refused for memory is run once more with them: a query, say, or a DELETE that makes
-    /// room. The bytes are allocated in one block when a statement runs, and not written to.
+    /// room. The bytes are allocated in one block before a statement runs, and not written to. As long as there is no
+    /// room for all of them, none are kept back.
     #[tactic(auto, using(tql_engine_state::proofs::Standing::new_law, crate::proofs::HoldPoints::new_holds))]
     pub fn with_reserve(memory: Memory, kept_back: usize) -> Engine<I>
         ensures stands { StandsFor result new_state }
