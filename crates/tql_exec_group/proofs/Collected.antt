@@ -15,7 +15,7 @@ use Rattle.tql_expr.specs.declared.node.Node.TheVariants.{Literal, Column, Negat
 use Rattle.tql_expr.specs.declared.node.Node.TheVariants.{Compare, IsNull, Related, ContainsPoint, Not, And, Or}
 use Rattle.tql_expr.specs.Meaning.{HasOperand}
 use Rattle.tql_expr.specs.declared.terms.Aggregate.{Aggregate as Asked}
-use Rattle.tql_expr.specs.declared.terms.Aggregate.TheVariants.{Rows, Over}
+use Rattle.tql_expr.specs.declared.terms.Aggregate.TheVariants.{Over}
 use Rattle.tql_expr.specs.declared.terms.Terms.{Terms}
 use Rattle.tql_exec_group.specs.Steps.{aggregate_of, aggregates_in, reads_from, AreSteps, IsStep, LiesIn}
 use Rattle.tql_exec_group.specs.declared.steps.Steps.{Steps}
@@ -91,7 +91,7 @@ module _ (t : Terms) (from : ℕ) where
 
   with_first : (n : Node) (ws : List Asked) → IsSomeStep n → All (HasOperand t) ws
       → All (HasOperand t) (cons_option (aggregate_of n) ws)
-  with_first CountRows ws p h = All-cons (HasOperand t) Rows ws tt h
+  with_first CountRows ws p h = h
   with_first (Aggregate f a) ws p h =
       let below : a < p.0 = ltb-true a p.0 p.1.before in
       All-cons (HasOperand t) (Over f (record { place = a })) ws (omega (arith, below, p.1.there)) h

@@ -99,13 +99,13 @@ distinct_differ (r ∷ rows) = (
       rows),
 )
 
-keys_differ : (columns : List ℕ) (rows : List Row) → AllDiffer (keys_of columns rows)
+pub keys_differ : (columns : List ℕ) (rows : List Row) → AllDiffer (keys_of columns rows)
 keys_differ [] rows = (refl, tt)
 keys_differ (c ∷ cs) rows = distinct_differ (map (cells_at (c ∷ cs)) rows)
 
 -- ---- the keys
 
-keys_grow : (columns : List ℕ) (rows : List Row) (r : Row)
+pub keys_grow : (columns : List ℕ) (rows : List Row) (r : Row)
     → with_row (keys_of columns rows) (cells_at columns r) ≡ keys_of columns (rows ++ r ∷ [])
 keys_grow [] rows r = refl
 keys_grow (c ∷ cs) rows r =
@@ -142,7 +142,7 @@ none_with columns k (q ∷ rows) e =
     ∙ none_with columns k rows parts.1
 
 -- a group that is new has no rows
-no_rows : (columns : List ℕ) (rows : List Row) (r : Row)
+pub no_rows : (columns : List ℕ) (rows : List Row) (r : Row)
     → list_any (same_row (cells_at columns r)) (keys_of columns rows) ≡ false
     → with_key columns rows (cells_at columns r) ≡ []
 no_rows [] rows r e = absurd (cc)
@@ -153,14 +153,15 @@ no_rows (c ∷ cs) rows r e =
 -- ---- the rows of a group
 
 module _ (columns : List ℕ) (rows : List Row) (r : Row) where
-  taken : with_key columns (rows ++ r ∷ []) (cells_at columns r) ≡ with_key columns rows (cells_at columns r) ++ r ∷ []
+  pub taken : with_key columns (rows ++ r ∷ []) (cells_at columns r)
+      ≡ with_key columns rows (cells_at columns r) ++ r ∷ []
   taken =
       let test : Row → Bool = λ q. same_row (cells_at columns q) (cells_at columns r) in
       filter-append test rows (r ∷ [])
       ∙ ap (λ rs. with_key columns rows (cells_at columns r) ++ rs) (kept test r [] (same_row-self (cells_at columns
       r)))
 
-  stays : (key : Row) → same_row (cells_at columns r) key ≡ false
+  pub stays : (key : Row) → same_row (cells_at columns r) key ≡ false
       → with_key columns (rows ++ r ∷ []) key ≡ with_key columns rows key
   stays key apart =
       let test : Row → Bool = λ q. same_row (cells_at columns q) key in
@@ -169,13 +170,13 @@ module _ (columns : List ℕ) (rows : List Row) (r : Row) where
 
 -- ---- a number among keys
 
-number_below : {X : Type 0} (keys : List X) (k : X) (n : ℕ) → slice_get keys n ≡ Some k → n < length keys
+pub number_below : {X : Type 0} (keys : List X) (k : X) (n : ℕ) → slice_get keys n ≡ Some k → n < length keys
 number_below [] k zero e = absurd (cc)
 number_below [] k (suc n) e = absurd (cc)
 number_below (x ∷ keys) k zero e = omega arith
 number_below (x ∷ keys) k (suc n) e = let l : n < length keys = number_below keys k n e in omega arith
 
-number_behind : (keys : List Row) (k : Row) (n : ℕ) → list_any (same_row k) keys ≡ false
+pub number_behind : (keys : List Row) (k : Row) (n : ℕ) → list_any (same_row k) keys ≡ false
     → slice_get (keys ++ k ∷ []) n ≡ Some k → n ≡ length keys
 number_behind [] k zero e at = refl
 number_behind [] k (suc n) e at = absurd (cc)
@@ -209,7 +210,7 @@ module _ {X : Type 0} (R R' : Row → X → Type 0) (k : Row)
       (others_stay key f parts.0 h.0, all_stay keys fs parts.1 h.1)
 
   -- the accumulators of the group at a number take a row
-  one_takes : (n : ℕ) (keys : List Row) (folds : List X) (g : X) → AllDiffer keys → slice_get keys n ≡ Some k
+  pub one_takes : (n : ℕ) (keys : List Row) (folds : List X) (g : X) → AllDiffer keys → slice_get keys n ≡ Some k
       → R' k g → AllZip R keys folds → AllZip R' keys (slice_set folds n g)
   one_takes zero [] folds g a at next h = absurd (cc)
   one_takes (suc n) [] folds g a at next h = absurd (cc)
@@ -260,7 +261,7 @@ folds_long t columns aggregates rows key part h =
 grouped_by_more : (t : Terms) (c : ℕ) (cs : List ℕ) (aggregates : List Aggregate) (old new : Groups)
     (last : List Accumulator) (rows : List Row) (r : Row) (n : ℕ)
     → Enters (c ∷ cs) aggregates old new r n → TakesAt t aggregates n new.folds.items last r
-    → HasGrouped t (c ∷ cs) aggregates old rows
+    → AreGrouped t (c ∷ cs) aggregates old.keys old.folds.items rows
     → AreGrouped t (c ∷ cs) aggregates new.keys last (rows ++ r ∷ [])
 grouped_by_more t c cs aggregates old new last rows r n enters takes h =
     let columns : List ℕ = c ∷ cs in
@@ -326,7 +327,7 @@ pub grouped_more : (t : Terms) (columns : List ℕ) (aggregates : List Aggregate
     → AreGrouped t columns aggregates new.keys last (rows ++ r ∷ [])
 grouped_more t [] aggregates old new last r n e enters takes rows h = absurd (cc)
 grouped_more t (c ∷ cs) aggregates old new last r n e enters takes rows h =
-    grouped_by_more t c cs aggregates old new last rows r n enters takes h
+    grouped_by_more t c cs aggregates old new last rows r n enters takes h.grouped
 
 pub all_more : (t : Terms) (columns : List ℕ) (aggregates : List Aggregate) (keys : List Row)
     (folds last : List Accumulator) (r : Row) → nat_eq (length columns) 0 ≡ true
@@ -383,14 +384,15 @@ module _ (t : Terms) (columns : List ℕ) (aggregates : List Aggregate) (s : Gro
   part_folded =
       let of_rows : Row → List Accumulator → Type 0 =
       λ key part. HaveFolded t aggregates part (with_key columns rows key) in
-      let mine = zip_get of_rows n (keys_of columns rows) h.parts key_here h.folds
+      let g = h.grouped in
+      let mine = zip_get of_rows n (keys_of columns rows) g.parts key_here g.folds
       (slice_get-get_or (keys_of columns rows) n [] below) in
-      let inside : n < length h.parts = number_below h.parts mine.0 n mine.1 in
+      let inside : n < length g.parts = number_below g.parts mine.0 n mine.1 in
       subst (λ fs. HaveFolded t aggregates fs (with_key columns rows key_here))
-      (sym (is (joined (take n h.parts)) mine.0 (joined (drop (suc n) h.parts))
-      (h.flat ∙ parted n h.parts mine.0 mine.1)
-      (long_before of_rows (length aggregates) (folds_long t columns aggregates rows) n (keys_of columns rows) h.parts
-      h.folds (omega (arith, inside)))
+      (sym (is (joined (take n g.parts)) mine.0 (joined (drop (suc n) g.parts))
+      (g.flat ∙ parted n g.parts mine.0 mine.1)
+      (long_before of_rows (length aggregates) (folds_long t columns aggregates rows) n (keys_of columns rows) g.parts
+      g.folds (omega (arith, inside)))
       (folds_long t columns aggregates rows key_here mine.0 mine.2))) mine.2
 
 -- a kept key is that of its group

@@ -2,7 +2,9 @@ pub mod Scopes
 pub mod Repeats
 pub mod Parts
 pub mod Groups
+pub mod Counts
 pub mod OnGroup
+pub mod Sourced
 pub mod Collected
 pub mod Turns
 pub mod Indexes

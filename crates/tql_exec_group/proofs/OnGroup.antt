@@ -1,5 +1,5 @@
 -- The results of nodes on a group are the values and truths of their trees.
-use Rattle.std.specs.Prelude.{◌≡◌, refl, ℕ, zero, suc, ◌+◌, ◌-◌, ◌<◌, ◌≤◌, Bool, true, false, ◌&&◌, ◌||◌, not}
+use Rattle.std.specs.Prelude.{◌≡◌, refl, ℕ, zero, suc, ◌+◌, ◌-◌, ◌^◌, ◌<◌, ◌≤◌, Bool, true, false, ◌&&◌, ◌||◌, not}
 use Rattle.std.specs.Prelude.{IsTrue}
 use Rattle.std.specs.Prelude.{filter, if◌then◌else◌, nat_eq, nat_le, nat_lt, List, [], ◌∷◌, ◌++◌, All, map, length}
 use Rattle.std.specs.Prelude.{pos, Option}
@@ -16,7 +16,8 @@ use Rattle.tql_spec.specs.Bag.{In}
 use Rattle.tql_spec.specs.Binding.{is_loose}
 use Rattle.tql_spec.specs.Creation.{has_expr, has_number}
 use Rattle.tql_spec.specs.Truth.{Truth, and, or, negated, truth_of}
-use Rattle.tql_spec.specs.Datum.{Datum, Null, Int, Minus, Row, calculate, is_null, same_row}
+use Rattle.tql_spec.specs.Datum.{Datum, Null, Int, Minus, Row, calculate, exact, is_null, same_row}
+use Rattle.tql_spec.specs.Expression as bound
 use Rattle.tql_spec.specs.Expression.{Cond, Expr, both, eval, go_on, judge, passes}
 use Rattle.tql_spec.specs.Query.{cells_at, Scope}
 use Rattle.tql_spec.specs.QueryLaws.{NamesGroups, shown}
@@ -33,11 +34,13 @@ use Rattle.tql_expr.specs.declared.node.Node.{Node}
 use Rattle.tql_expr.specs.declared.node.Node.TheVariants.{Literal, Column, Negate, Binary, CountRows, Aggregate}
 use Rattle.tql_expr.specs.declared.node.Node.TheVariants.{Compare, IsNull, Related, ContainsPoint, Not, And, Or}
 use Rattle.tql_expr.specs.declared.terms.Aggregate as code
-use Rattle.tql_expr.specs.declared.terms.Aggregate.TheVariants.{Rows, Over}
+use Rattle.tql_expr.specs.declared.terms.Aggregate.TheVariants.{Over}
 use Rattle.tql_expr.specs.declared.terms.CondId.{CondId}
 use Rattle.tql_expr.specs.declared.terms.ExprId.{ExprId}
 use Rattle.tql_expr.specs.declared.terms.Terms.{Terms}
 use Rattle.tql_exec_fold.specs.Folded.{HasFolded, HaveFolded}
+use Rattle.tql_exec_fold.proofs.Bests.{too_great}
+use Rattle.tql_exec_group.specs.Counted.{kept_count}
 use Rattle.tql_exec_group.specs.Grouped.{keys_of, with_key}
 use Rattle.tql_exec_group.specs.Places.{cell_in, key_at, place_from}
 use Rattle.tql_exec_group.specs.Results.{AreResults, IsKeyOf, IsResult}
@@ -55,7 +58,7 @@ not_either : (a b : Bool) → not (a || b) ≡ true → (not a ≡ true) × (not
 not_either false b h = (refl, h)
 not_either true b h = absurd (cc)
 
-not_not : (a : Bool) → not (not a) ≡ true → a ≡ true
+pub not_not : (a : Bool) → not (not a) ≡ true → a ≡ true
 not_not true h = refl
 not_not false h = absurd (cc)
 
@@ -123,6 +126,19 @@ key_of_group (c ∷ cs) rows n key l is =
     first_passes test some.0 rows some.1 (ap (λ k. same_row k key) (sym some.2) ∙ same_row-self key) in
     subst (λ k. IsKeyOf columns k first) (same_row-is (cells_at columns first) key passes) (key_of_row columns first)
 
+-- ---- the number of rows
+
+-- a number that 64 bits do not hold stays one that 64 bits, signed, do not hold
+pub count_is : (n : ℕ) → exact (pos (kept_count n)) ≡ exact (pos n)
+count_is n = by_bool (nat_lt n (2 ^ 64))
+    (λ e. ap (λ m. exact (pos m)) (let l : n < 2 ^ 64 = ltb-true n (2 ^ 64) e in omega arith))
+    (λ e.
+    let l : 2 ^ 64 ≤ n = ltb-false n (2 ^ 64) e in
+    none (kept_count n) (omega arith) ∙ sym (none n (omega arith)))
+  where
+    none : (m : ℕ) → 2 ^ 63 ≤ m → exact (pos m) ≡ None
+    none m l = ap {B = Option Datum} (λ (b : Bool). if b then Some (Int (pos m)) else None) (too_great m l)
+
 -- ---- one node
 
 module _ (t : Terms) (columns : List ℕ) (rows : List Row) (row : Row) (value : ℕ → Option Datum)
@@ -142,10 +158,11 @@ module _ (t : Terms) (columns : List ℕ) (rows : List Row) (row : Row) (value :
       → not (has_expr (is_loose columns) (cond_of (at_ a))) ≡ true → truth a ≡ judge rows row (cond_of (at_ a))
   truth_there a low high = (so_far a (grind (arith, nat_tests, low)) (ltb-true a at high)).is_truth
 
-  module _ (key : Row) (is_key : IsKeyOf columns key row) where
+  module _ (key : Row) (is_key : IsKeyOf columns key row) (count : Option Datum)
+      (counted : count ≡ eval rows row bound.CountRows) where
     value_right : (n : Node) → IsTrue (reads_before (length t.literals.items) at n) → IsTrue (reads_from from n)
         → aggregate_of n ≡ None → not (is_loose columns (expr_of (node_term lit at_ n))) ≡ true
-        → node_value lit (key_at columns key) value n ≡ eval rows row (expr_of (node_term lit at_ n))
+        → node_value lit (key_at columns key) count value n ≡ eval rows row (expr_of (node_term lit at_ n))
     value_right (Literal k) before within none l = refl
     value_right (Column i) before within none l = ap {B = Option Datum} Some (is_key i (not_not (has_number i
         columns) l))
@@ -156,7 +173,7 @@ module _ (t : Terms) (columns : List ℕ) (rows : List Row) (row : Row) (value :
         let w = and_parts (nat_le from a) (nat_le from b) within in
         let v = and_parts (nat_lt a at) (nat_lt b at) before in
         λ i. calculated (plain_operation op) (value_there a w.0 v.0 p.0 i) (value_there b w.1 v.1 p.1 i)
-    value_right CountRows before within none l = absurd (cc)
+    value_right CountRows before within none l = counted
     value_right (Aggregate f a) before within none l = absurd (cc)
     value_right (Compare sign a b) before within none l = refl
     value_right (IsNull a) before within none l = refl
@@ -226,7 +243,7 @@ module _ (t : Terms) (columns : List ℕ) (rows : List Row) (row : Row) (value :
   -- an aggregate
   told_right : (n : Node) (which : code.Aggregate) → aggregate_of n ≡ Some which
       → tree_of t which ≡ expr_of (node_term lit at_ n)
-  told_right CountRows which is = ap (tree_of t) (sym (inside Rows which is))
+  told_right CountRows which is = absurd (cc)
   told_right (Aggregate f a) which is = ap (tree_of t) (sym (inside (Over f (record { place = a })) which is))
   told_right (Literal k) which is = absurd (cc)
   told_right (Column i) which is = absurd (cc)
@@ -260,9 +277,10 @@ module _ {X : Type 0} (f : Found → Option X) (from : ℕ) (found : List Found)
 
 module _ (t : Terms) (columns : List ℕ) (rows : List Row) (row : Row) (from : ℕ) (found : List Found) (one : Found)
     (n : Node) (key : Row) (h : AreResults t columns rows row from found) (is_key : IsKeyOf columns key row)
+    (count : Option Datum) (counted : count ≡ eval rows row bound.CountRows)
     (step : IsStep t from (from + length found) n)
     (plain : aggregate_of n ≡ None → outcome one.value ≡ node_value (datum_at t.literals.items) (key_at columns key)
-    (value_in from found) n)
+    count (value_in from found) n)
     (told : (which : code.Aggregate) → aggregate_of n ≡ Some which → outcome one.value ≡ eval rows row (tree_of t
     which))
     (judges : judged one.truth ≡ node_truth (value_in from found) (truth_in from found) n) where
@@ -277,7 +295,8 @@ module _ (t : Terms) (columns : List ℕ) (rows : List Row) (row : Row) (from : 
     where
       by_kind : (o : Option code.Aggregate) → aggregate_of n ≡ o → outcome one.value ≡ eval rows row (expr_of tree)
       by_kind None e = plain e
-          ∙ value_right t columns rows row (value_in from found) (truth_in from found) from here h key is_key n
+          ∙ value_right t columns rows row (value_in from found) (truth_in from found) from here h key is_key count
+          counted n
           step.before
           step.within e l
       by_kind (Some which) e = told which e
@@ -391,15 +410,16 @@ module _ (t : Terms) (s : Steps) (i next : ℕ) (xs : List Node) (d : Node) (fou
     next_few few = let most = at_most_one node in omega (arith, few, most, more)
 
   module _ (counted : next ≡ length (aggregates_in (take i s.nodes.items))) (columns : List ℕ) (key : Row)
-      (folds : List Accumulator) (one : Found)
+      (count : ℕ) (folds : List Accumulator) (one : Found)
       (plain : aggregate_of node ≡ None → outcome one.value ≡ node_value (datum_at t.literals.items)
-      (key_at columns key) (value_in s.from given) node)
+      (key_at columns key) (exact (pos count)) (value_in s.from given) node)
       (told : (which : code.Aggregate) → aggregate_of node ≡ Some which → (t' : Terms) (rows : List Row) (row : Row)
       (a : Accumulator) → slice_get folds next ≡ Some a → HasFolded t' which a rows
       → outcome one.value ≡ eval rows row (tree_of t' which))
       (judges : judged one.truth ≡ node_truth (value_in s.from given) (truth_in s.from given) node)
-      (rows : List Row) (row : Row) (held : HaveFolded t s.aggregates.items folds rows)
-      (is_key : IsKeyOf columns key row) (so_far : AreResults t columns rows row s.from found) where
+      (rows : List Row) (row : Row) (is_count : count ≡ kept_count (length rows))
+      (held : HaveFolded t s.aggregates.items folds rows) (is_key : IsKeyOf columns key row)
+      (so_far : AreResults t columns rows row s.from found) where
     told_here : (which : code.Aggregate) → aggregate_of node ≡ Some which
         → outcome one.value ≡ eval rows row (tree_of t which)
     told_here which is =
@@ -413,9 +433,27 @@ module _ (t : Terms) (s : Steps) (i next : ℕ) (xs : List Node) (d : Node) (fou
     next_result =
         subst (λ fs. AreResults t columns rows row s.from (fs ++ one ∷ [])) slice
         (one_more_result t columns rows row s.from given one node key
-        (subst (AreResults t columns rows row s.from) (sym slice) so_far) is_key next_step plain told_here judges)
+        (subst (AreResults t columns rows row s.from) (sym slice) so_far) is_key (exact (pos count))
+        (ap (λ m. exact (pos m)) is_count ∙ count_is (length rows)) next_step plain told_here judges)
 
 -- ---- HAVING and the items
+
+-- what one group shows
+pub shown_is : (conds : List Cond) (exprs : List Expr) (s : Scope)
+    → shown_if (passes s.group s.row conds) (map_all (eval s.group s.row) exprs) ≡ shown conds exprs (s ∷ [])
+shown_is conds exprs s = by_test (passes s.group s.row conds) refl
+  where
+    by_test : (o : Option Bool) → passes s.group s.row conds ≡ o
+        → shown_if (passes s.group s.row conds) (map_all (eval s.group s.row) exprs) ≡ shown conds exprs (s ∷ [])
+    by_test None e =
+        ap (λ o. shown_if o (map_all (eval s.group s.row) exprs)) e
+        ∙ sym (ap (λ o. kept_if s o (Some []) >>= λ kept. map_all (λ s. map_all (eval s.group s.row) exprs) kept) e)
+    by_test (Some true) e =
+        ap (λ o. shown_if o (map_all (eval s.group s.row) exprs)) e
+        ∙ sym (ap (λ o. kept_if s o (Some []) >>= λ kept. map_all (λ s. map_all (eval s.group s.row) exprs) kept) e)
+    by_test (Some false) e =
+        ap (λ o. shown_if o (map_all (eval s.group s.row) exprs)) e
+        ∙ sym (ap (λ o. kept_if s o (Some []) >>= λ kept. map_all (λ s. map_all (eval s.group s.row) exprs) kept) e)
 
 module _ (t : Terms) (columns : List ℕ) (rows : List Row) (row : Row) (from : ℕ) (found : List Found)
     (h : AreResults t columns rows row from found) where
@@ -447,22 +485,6 @@ module _ (t : Terms) (columns : List ℕ) (rows : List Row) (row : Row) (from : 
       let rest = items_are items (All-tail (λ (y : ExprId). LiesIn from (from + length found) y.place) x items there)
       p.1 in
       λ i. with_front (one i) (rest i)
-
-  shown_is : (conds : List Cond) (exprs : List Expr) (s : Scope)
-      → shown_if (passes s.group s.row conds) (map_all (eval s.group s.row) exprs) ≡ shown conds exprs (s ∷ [])
-  shown_is conds exprs s = by_test (passes s.group s.row conds) refl
-    where
-      by_test : (o : Option Bool) → passes s.group s.row conds ≡ o
-          → shown_if (passes s.group s.row conds) (map_all (eval s.group s.row) exprs) ≡ shown conds exprs (s ∷ [])
-      by_test None e =
-          ap (λ o. shown_if o (map_all (eval s.group s.row) exprs)) e
-          ∙ sym (ap (λ o. kept_if s o (Some []) >>= λ kept. map_all (λ s. map_all (eval s.group s.row) exprs) kept) e)
-      by_test (Some true) e =
-          ap (λ o. shown_if o (map_all (eval s.group s.row) exprs)) e
-          ∙ sym (ap (λ o. kept_if s o (Some []) >>= λ kept. map_all (λ s. map_all (eval s.group s.row) exprs) kept) e)
-      by_test (Some false) e =
-          ap (λ o. shown_if o (map_all (eval s.group s.row) exprs)) e
-          ∙ sym (ap (λ o. kept_if s o (Some []) >>= λ kept. map_all (λ s. map_all (eval s.group s.row) exprs) kept) e)
 
   -- what a group shows
   pub group_shows : (having : List CondId) (items : List ExprId)

@@ -20,7 +20,9 @@ pub record Enters (columns : List ℕ) (aggregates : List Aggregate) (old new : 
   pub keys : new.keys ≡ with_row old.keys (cells_at columns row)
   pub number : slice_get new.keys n ≡ Some (cells_at columns row)
   pub begun : n ≡ length old.keys → Begins aggregates old.folds.items new.folds.items
+  pub none : n ≡ length old.keys → new.counts.items ≡ old.counts.items ++ 0 ∷ []
   pub kept : (n ≡ length old.keys → ⊥) → new.folds.items ≡ old.folds.items
+  pub same : (n ≡ length old.keys → ⊥) → new.counts.items ≡ old.counts.items
 
 -- the part with a number, in a list of parts of this width one after another
 abbrev pub IsPart : ℕ → ℕ → List Accumulator → List Accumulator → Type 0

@@ -1,5 +1,6 @@
 -- The groups of rows, in the order of their first rows, and what the state of the sink says of the rows so far.
-use Rattle.std.specs.Prelude.{◌≡◌, ℕ, List, [], ◌∷◌, ◌++◌, All, filter, map, Option, Some, slice_index_or}
+use Rattle.std.specs.Prelude.{◌≡◌, ℕ, List, [], ◌∷◌, ◌++◌, All, filter, length, map, Option, Some}
+use Rattle.std.specs.Prelude.{slice_index_or}
 use Rattle.std.specs.List.{AllZip}
 use Rattle.tql_spec.specs.Datum.{Row, same_row}
 use Rattle.tql_spec.specs.Query.{cells_at, distinct_rows, of_group, Scope}
@@ -10,6 +11,8 @@ use Rattle.tql_expr.specs.declared.terms.CondId.{CondId}
 use Rattle.tql_expr.specs.declared.terms.ExprId.{ExprId}
 use Rattle.tql_expr.specs.declared.terms.Terms.{Terms}
 use Rattle.tql_exec_fold.specs.Folded.{HaveFolded}
+use Rattle.tql_exec_group.specs.Counted.{kept_count}
+use Rattle.tql_exec_group.specs.Sources.{AreSources}
 use Rattle.tql_exec_group.specs.Steps.{AreSteps, IsStepped}
 use Rattle.tql_exec_fold.specs.declared.fold.Accumulator.{Accumulator}
 use Rattle.tql_exec_group.specs.declared.grouping.Grouping.{Grouping}
@@ -46,8 +49,16 @@ pub record AreGrouped (t : Terms) (columns : List ℕ) (aggregates : List Aggreg
   pub flat : all ≡ joined parts
   pub folds : AllZip (λ key part. HaveFolded t aggregates part (with_key columns rows key)) (keys_of columns rows) parts
 
-abbrev pub HasGrouped : Terms → List ℕ → List Aggregate → Groups → List Row → Type 0
-HasGrouped t columns aggregates s rows = AreGrouped t columns aggregates s.keys s.folds.items rows
+-- the rows of each group are counted
+abbrev pub AreCounted : List ℕ → List ℕ → List Row → Type 0
+AreCounted columns counts rows =
+    AllZip (λ key n. n ≡ kept_count (length (with_key columns rows key))) (keys_of columns rows) counts
+
+-- the groups are those of these rows
+pub record HasGrouped (t : Terms) (columns : List ℕ) (aggregates : List Aggregate) (s : Groups) (rows : List Row)
+    : Type 0 where
+  pub grouped : AreGrouped t columns aggregates s.keys s.folds.items rows
+  pub counted : AreCounted columns s.counts.items rows
 
 -- the sink of a query with these columns of GROUP BY, this HAVING and these items
 pub record IsGroupingOf (t : Terms) (cs : List ℕ) (conds : List CondId) (exprs : List ExprId) (g : Grouping)
@@ -57,11 +68,18 @@ pub record IsGroupingOf (t : Terms) (cs : List ℕ) (conds : List CondId) (exprs
   pub having : g.having.now ≡ conds
   pub items : g.items.now ≡ exprs
 
--- the nodes that a sink evaluates are those of its terms, with those of HAVING and the items among them
+-- the nodes that a sink evaluates are those of its terms, with those of HAVING and the items among them, and it knows
+-- where the first items stand
 pub record IsReady (g : Grouping) : Type 0 where
   pub steps : AreSteps g.terms.now g.steps
   pub having : All (λ (c : CondId). IsStepped g.steps c.place) g.having.now
   pub items : All (λ (x : ExprId). IsStepped g.steps x.place) g.items.now
+  pub sources : AreSources g.terms.now g.columns.now g.sources.items g.items.now
+
+-- all items stand in a group as they are, and all groups are shown
+pub record IsDirect (g : Grouping) : Type 0 where
+  pub having : g.having.now ≡ []
+  pub items : length g.sources.items ≡ length g.items.now
 
 -- outside aggregates, HAVING and the items name grouping columns alone
 abbrev pub NamesKeys : Grouping → Type 0

@@ -17,7 +17,7 @@ use Rattle.tql_expr.specs.declared.node.Node.{Node}
 use Rattle.tql_expr.specs.declared.node.Node.TheVariants.{Literal, Column, Negate, Binary, CountRows, Aggregate}
 use Rattle.tql_expr.specs.declared.node.Node.TheVariants.{Compare, IsNull, Related, ContainsPoint, Not, And, Or}
 use Rattle.tql_expr.specs.declared.terms.Aggregate as code
-use Rattle.tql_expr.specs.declared.terms.Aggregate.TheVariants.{Rows, Over}
+use Rattle.tql_expr.specs.declared.terms.Aggregate.TheVariants.{Over}
 use Rattle.tql_expr.specs.declared.terms.Terms.{Terms}
 use Rattle.tql_exec_group.specs.declared.on_group.Found.{Found}
 use Rattle.tql_exec_group.specs.declared.steps.Steps.{Steps}
@@ -40,9 +40,8 @@ reads_from from (Not c) = nat_le from c
 reads_from from (And c d) = nat_le from c && nat_le from d
 reads_from from (Or c d) = nat_le from c && nat_le from d
 
--- the aggregate that a node is
+-- the aggregate of an operand that a node is; COUNT(*), the number of rows, has none
 abbrev pub aggregate_of : Node → Option code.Aggregate
-aggregate_of CountRows = Some Rows
 aggregate_of (Aggregate f a) = Some (Over f (record { place = a }))
 aggregate_of _ = None
 
@@ -82,13 +81,15 @@ value_in from found at = slice_index_or (map (λ (f : Found). outcome f.value) f
 abbrev pub truth_in : ℕ → List Found → ℕ → Option Truth
 truth_in from found at = slice_index_or (map (λ (f : Found). judged f.truth) found) (at - from) None
 
--- the value of a node from the values of its operands; of a condition or an aggregate it says nothing
-abbrev pub node_value : (ℕ → Datum) → (ℕ → Datum) → (ℕ → Option Datum) → Node → Option Datum
-node_value literal cell value (Literal k) = Some (literal k)
-node_value literal cell value (Column i) = Some (cell i)
-node_value literal cell value (Negate a) = value a >>= λ v. calculate Minus (Int (pos 0)) v
-node_value literal cell value (Binary op a b) = calculated (plain_operation op) (value a) (value b)
-node_value literal cell value _ = Some Null
+-- the value of a node from the values of its operands and, for COUNT(*), from that of the number of rows; of a
+-- condition or an aggregate of an operand it says nothing
+abbrev pub node_value : (ℕ → Datum) → (ℕ → Datum) → Option Datum → (ℕ → Option Datum) → Node → Option Datum
+node_value literal cell count value (Literal k) = Some (literal k)
+node_value literal cell count value (Column i) = Some (cell i)
+node_value literal cell count value CountRows = count
+node_value literal cell count value (Negate a) = value a >>= λ v. calculate Minus (Int (pos 0)) v
+node_value literal cell count value (Binary op a b) = calculated (plain_operation op) (value a) (value b)
+node_value literal cell count value _ = Some Null
 
 -- a comparison, a predicate on two periods, and one on a period and a point, of values that may be out of range
 abbrev pub compared_by : Comparison → Option Datum → Option Datum → Option Truth

@@ -1,7 +1,7 @@
 //! GROUP BY, HAVING and the select list of a grouped query, as a sink: each row is folded into the accumulators of its
-//! group when it is handed over, so no list of the rows is kept. A group keeps its cells in the grouping columns and
-//! one accumulator for each aggregate of HAVING and the items.
-ghost use Rattle.std.specs.Prelude.{◌≡◌, ◌<◌, ◌∷◌, [], All, IfErr, IfOk, length, List, map, MatchResult, OnOk};
+//! group when it is handed over, so no list of the rows is kept. A group keeps its cells in the grouping columns, the
+//! number of its rows, and one accumulator for each aggregate of HAVING and the items that has an operand.
+ghost use Rattle.std.specs.Prelude.{◌≡◌, ◌<◌, ◌∷◌, [], All, IfErr, IfOk, IsTrue, length, List, map, MatchResult, OnOk};
 ghost use Rattle.std.specs.Prelude.{slice_get, slice_index_or, Some};
 ghost use Rattle.tql_spec.specs.Datum.{Row};
 ghost use Rattle.tql_value.specs.Views.{row_of, rows_of};
@@ -10,10 +10,12 @@ ghost use Rattle.tql_expr.specs.Meaning.{HasOperand};
 ghost use Rattle.tql_exec_join.specs.Tuples.{tuple_row};
 ghost use Rattle.tql_exec_fold.specs.Folded.{HaveFolded};
 ghost use Rattle.tql_exec_group.specs.Begun.{Begins, Enters, IsPart, TakesAt};
+ghost use Rattle.tql_exec_group.specs.Counted.{CountsAt};
 ghost use Rattle.tql_exec_group.specs.Places.{ArePlaces};
 ghost use Rattle.tql_exec_numbered.specs.Numbered.{with_row};
 ghost use Rattle.tql_exec_group.specs.Operands.{operands_prop as is_prop};
 
+use crate::direct::{Source, add_direct, sources_of};
 use crate::on_group::{Found, Group, Results, add_shown, find_results};
 use crate::places::places_of;
 use crate::steps::{Steps, steps_of};
@@ -39,6 +41,8 @@ pub struct Grouping<'q> {
     /// The index of each column among the grouping columns.
     places: Vec<Option<usize>, Memory>,
     steps: Steps,
+    /// Where the first items stand in a group, up to one whose value is to be calculated.
+    sources: Vec<Source, Memory>,
     ghost placed: { ArePlaces columns.now places.items },
     ghost there: { All (HasOperand terms.now) steps.aggregates.items } by { is_prop terms.now steps.aggregates.items },
 }
@@ -53,9 +57,11 @@ impl Drop for Grouping<'_> {
             items: _,
             places,
             steps,
+            sources,
         } = self;
         drop(places);
         drop(steps);
+        drop(sources);
     }
 }
 
@@ -63,15 +69,41 @@ impl Drop for Grouping<'_> {
 pub struct Groups {
     /// The cells of each group in the grouping columns; nothing if there are no grouping columns.
     keys: Numbered,
-    /// The accumulators of all groups, one group after another, with one for each aggregate.
+    /// The number of rows of each group, for COUNT(*). It stays at the greatest one of 64 bits.
+    counts: Vec<u64, Memory>,
+    /// The accumulators of all groups, one group after another, with one for each aggregate of an operand.
     folds: Vec<Accumulator, Memory>,
 }
 
 impl Drop for Groups {
     fn drop(self) {
-        let Groups { keys, folds } = self;
+        let Groups {
+            keys,
+            counts,
+            folds,
+        } = self;
         drop(keys);
+        drop(counts);
         drop(folds);
+    }
+}
+
+/// Counts one more row of the group with a number.
+fn count_at(counts: &mut Vec<u64, Memory>, number: usize)
+    ensures { CountsAt number counts.old.items counts.new.items }
+{
+    if number < counts.len() {
+        counts[number] = counts[number].saturating_add(1);
+    }
+}
+
+/// Returns the number of rows of the group with a number.
+fn count_of(counts: &[u64], number: usize) -> u64
+    ensures { result ≡ slice_index_or counts.now number 0 }
+{
+    match counts.get(number) {
+        Some(count) => *count,
+        None => 0,
     }
 }
 
@@ -182,6 +214,7 @@ fn enter(
     if number != groups {
         return Ok(number);
     }
+    state.counts.push(0)?;
     begin_group(aggregates, &mut state.folds)?;
     Ok(number)
 }
@@ -209,6 +242,7 @@ impl Sink for Grouping<'_> {
     fn take(&self, state: &mut Groups, row: &Tuple<'_>) -> Result<(), Refusal> {
         let aggregates = self.steps.aggregates.as_slice();
         if self.columns.is_empty() {
+            count_at(&mut state.counts, 0);
             return take_at(
                 self.memory,
                 self.terms,
@@ -219,6 +253,7 @@ impl Sink for Grouping<'_> {
             );
         }
         let number = enter(self.memory, self.columns, aggregates, state, row)?;
+        count_at(&mut state.counts, number);
         take_at(
             self.memory,
             self.terms,
@@ -235,8 +270,9 @@ impl<'q> Grouping<'q> {
     ghost use Rattle.tql_spec.specs.QueryLaws.{NamesGroups, shown};
     ghost use Rattle.tql_expr.specs.Evaluated.{Evaluated, behind};
     ghost use Rattle.tql_expr.specs.Meaning.{cond, expr, HasCond, HasExpr};
+    ghost use Rattle.tql_exec_group.specs.Counted.{kept_count};
     ghost use Rattle.tql_exec_group.specs.Grouped.{keys_of, kept_keys, scope_at, HasGrouped, IsGroupingOf};
-    ghost use Rattle.tql_exec_group.specs.Grouped.{shows, IsReady, NamesKeys};
+    ghost use Rattle.tql_exec_group.specs.Grouped.{shows, IsDirect, IsReady, NamesKeys};
     ghost use Rattle.tql_exec_group.specs.Results.{IsKeyOf};
 
     /// Returns the sink of a grouped query. Its nodes and the indexes of its columns are collected once. The only error
@@ -255,6 +291,7 @@ impl<'q> Grouping<'q> {
     {
         let places = places_of(memory, columns)?;
         let steps = steps_of(memory, terms, having, items)?;
+        let sources = sources_of(memory, terms, &places, items)?;
         Ok(Grouping {
             memory,
             terms,
@@ -263,6 +300,7 @@ impl<'q> Grouping<'q> {
             items,
             places,
             steps,
+            sources,
         })
     }
 
@@ -274,12 +312,29 @@ impl<'q> Grouping<'q> {
             (λ e. e ≡ Refusal.OutOfMemory) }
     {
         let keys = Numbered::new(self.memory);
+        let mut counts = Vec::new(self.memory);
         let mut folds = Vec::new(self.memory);
         if !self.columns.is_empty() {
-            return Ok(Groups { keys, folds });
+            return Ok(Groups {
+                keys,
+                counts,
+                folds,
+            });
         }
+        counts.push(0)?;
         begin_group(&self.steps.aggregates, &mut folds)?;
-        Ok(Groups { keys, folds })
+        Ok(Groups {
+            keys,
+            counts,
+            folds,
+        })
+    }
+
+    /// Whether all items stand in a group as they are, and there is no HAVING.
+    fn is_direct(&self) -> bool
+        ensures { IsTrue result → IsDirect self.now }
+    {
+        self.having.is_empty() && self.sources.len() == self.items.len()
     }
 
     /// Adds the values of the items on a group if it passes HAVING. Refused if an evaluation that is reached is out of
@@ -287,22 +342,27 @@ impl<'q> Grouping<'q> {
     fn add_group<'a>(
         &'a self,
         key: &'a [Value],
+        count: u64,
         folds: &'a [Accumulator],
         found: &mut Vec<Found<'a>, Memory>,
         made: &mut Vec<Vec<Value, Memory>, Memory>,
     ) -> Result<(), Refusal>
         requires ready { IsReady self.now }
         requires named { NamesKeys self.now }
-        ensures { (rows : List Row) (row : Row)
+        ensures { (rows : List Row) (row : Row) → count ≡ kept_count (length rows)
             → HaveFolded self.now.terms.now self.now.steps.aggregates.items folds.now rows
             → IsKeyOf self.now.columns.now (row_of key.now) row
             → Evaluated (λ _. rows_of made.new.items) (behind (rows_of made.old.items)
             (shows self.now (record { row = row; group = rows } ∷ []))) result }
     {
+        if self.is_direct() {
+            return add_direct(self.memory, key, count, &self.sources, made);
+        }
         let group = Group {
             columns: self.columns,
             places: &self.places,
             key,
+            count,
             folds,
         };
         find_results(self.terms, &self.steps, group, found)?;
@@ -331,8 +391,9 @@ impl<'q> Grouping<'q> {
     {
         let key = key_of(&state.keys, number);
         let width = self.steps.aggregates.len();
+        let count = count_of(state.counts.as_slice(), number);
         let folds = folds_at(state, number, width);
-        self.add_group(key, folds, found, made)
+        self.add_group(key, count, folds, found, made)
     }
 
     /// Returns the number of groups. Without grouping columns there is one, and no key is kept.

@@ -1,6 +1,7 @@
 //! GROUP BY, HAVING, aggregates and the values of the select list.
 #![tactic(auto)]
 
+mod direct;
 pub mod distinct;
 pub mod grouping;
 pub mod listing;

@@ -1,9 +1,10 @@
-//! HAVING and the select list on a group, from the cells of its grouping columns and its aggregates. The nodes are
-//! evaluated one after another, each once. A result out of range is kept as such: it refuses the query only if HAVING
-//! or an item reaches it.
+//! HAVING and the select list on a group, from the cells of its grouping columns, the number of its rows and its
+//! aggregates. The nodes are evaluated one after another, each once. A result out of range is kept as such: it refuses
+//! the query only if HAVING or an item reaches it.
 ghost use Rattle.std.specs.Prelude.{◌≡◌, ◌+◌, ◌<◌, ◌≤◌, ◌^◌, ◌∷◌, [], All, IsTrue, List, map, length, None};
-ghost use Rattle.std.specs.Prelude.{OnOk, slice_get, Some};
+ghost use Rattle.std.specs.Prelude.{OnOk, pos, slice_get, Some};
 ghost use Rattle.tql_spec.specs.Datum as pure;
+ghost use Rattle.tql_spec.specs.Datum.{exact};
 ghost use Rattle.tql_spec.specs.Expression as bound;
 ghost use Rattle.tql_spec.specs.Words.{map_all};
 ghost use Rattle.tql_value.specs.Views.{datum_of_view, outcome, row_of, rows_of};
@@ -14,6 +15,7 @@ ghost use Rattle.tql_expr.specs.Trees.{plain_operation};
 ghost use Rattle.tql_expr.specs.declared.terms.Aggregate.{Aggregate as CodeAggregate};
 ghost use Rattle.tql_expr.specs.declared.terms.Terms.{Terms as CodeTerms};
 ghost use Rattle.tql_exec_fold.specs.Folded.{HasFolded, HaveFolded};
+ghost use Rattle.tql_exec_group.specs.Counted.{kept_count};
 ghost use Rattle.tql_exec_group.specs.Places.{key_at, ArePlaces};
 ghost use Rattle.tql_exec_group.specs.Results.{AreResults, IsKeyOf};
 ghost use Rattle.tql_exec_group.specs.Steps.{aggregate_of, aggregates_in, node_truth};
@@ -35,13 +37,15 @@ use tql_value::refusal::Refusal;
 use tql_value::truth::Truth;
 use tql_value::value::{Value, View};
 
-/// A group: its cells in the grouping columns, and the accumulators of its aggregates.
+/// A group: its cells in the grouping columns, the number of its rows, and the accumulators of its aggregates.
 #[derive(Clone, Copy)]
 pub(crate) struct Group<'a> {
     pub(crate) columns: &'a [usize],
     /// The index of each column among the grouping columns.
     pub(crate) places: &'a [Option<usize>],
     pub(crate) key: &'a [Value],
+    /// The number of rows, which stays at the greatest one of 64 bits.
+    pub(crate) count: u64,
     pub(crate) folds: &'a [Accumulator],
     ghost placed: { ArePlaces columns.now places.now },
 }
@@ -107,7 +111,17 @@ fn key_cell<'a>(group: Group<'a>, column: usize) -> View<'a>
     }
 }
 
-/// Returns the value of an expression other than an aggregate. A condition has none, and counts as NULL.
+/// Returns a number of rows as the value of COUNT(*), or `Range` if 64 bits, signed, do not hold it.
+pub(crate) fn counted<'a>(count: u64) -> Result<View<'a>, Range>
+    ensures { outcome result ≡ exact (pos count) }
+{
+    match i64::try_from(count) {
+        Ok(number) => Ok(View::Int(number)),
+        Err(_) => Err(Range),
+    }
+}
+
+/// Returns the value of an expression other than an aggregate of an operand. A condition has none, and counts as NULL.
 fn value_of<'a>(
     terms: &'a Terms,
     group: Group<'a>,
@@ -118,12 +132,13 @@ fn value_of<'a>(
         (reads_before (length terms.now.literals.items) (results.from + length results.found.now) node) }
     requires within { IsTrue (reads_from results.from node) }
     ensures { outcome result ≡ node_value (datum_at terms.now.literals.items)
-        (key_at group.entry.columns.now (row_of group.entry.key.now))
+        (key_at group.entry.columns.now (row_of group.entry.key.now)) (exact (pos group.entry.count))
         (value_in results.entry.from results.entry.found.now) node }
 {
     match node {
         Node::Literal(place) => Ok(terms.literal(place)),
         Node::Column(column) => Ok(key_cell(group, column)),
+        Node::CountRows => counted(group.count),
         Node::Negate(a) => sub(View::Int(0), results.value(a)?),
         Node::Binary(op, a, b) => applied(op, results.value(a), results.value(b)),
         _ => Ok(View::Null),
@@ -157,7 +172,7 @@ fn truth_of(terms: &Terms, node: Node, results: Results<'_, '_>) -> Result<Truth
     }
 }
 
-/// Returns the value of an expression, or of an aggregate, which is the next one.
+/// Returns the value of an expression, or of an aggregate of an operand, which is the next one.
 fn value_on<'a>(
     terms: &'a Terms,
     group: Group<'a>,
@@ -169,7 +184,7 @@ fn value_on<'a>(
         (reads_before (length terms.now.literals.items) (results.from + length results.found.now) node) }
     requires within { IsTrue (reads_from results.from node) }
     ensures plain { aggregate_of node ≡ None → outcome result ≡ node_value (datum_at terms.now.literals.items)
-        (key_at group.entry.columns.now (row_of group.entry.key.now))
+        (key_at group.entry.columns.now (row_of group.entry.key.now)) (exact (pos group.entry.count))
         (value_in results.entry.from results.entry.found.now) node }
     ensures told { (which : CodeAggregate) → aggregate_of node ≡ Some which
         → (t : CodeTerms) (rows : List pure.Row) (row : pure.Row) (a : CodeAccumulator)
@@ -191,7 +206,7 @@ fn after(node: Node, next: usize) -> usize
     ensures { result ≡ next + length (aggregates_in (node ∷ [])) }
 {
     match node {
-        Node::CountRows | Node::Aggregate(..) => next + 1,
+        Node::Aggregate(..) => next + 1,
         _ => next,
     }
 }
@@ -206,6 +221,7 @@ pub(crate) fn find_results<'a>(
     requires { AreSteps terms.now steps.now }
     ensures size { OnOk result (length found.new.items ≡ length steps.now.nodes.items) }
     ensures results { OnOk result ((rows : List pure.Row) (row : pure.Row)
+        → group.entry.count ≡ kept_count (length rows)
         → HaveFolded terms.now steps.now.aggregates.items group.entry.folds.now rows
         → IsKeyOf group.entry.columns.now (row_of group.entry.key.now) row
         → AreResults terms.now group.entry.columns.now rows row steps.now.from found.new.items) }

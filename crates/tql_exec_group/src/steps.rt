@@ -10,7 +10,7 @@ use tql_expr::node::Node;
 use tql_expr::terms::{Aggregate, CondId, ExprId, Terms};
 use tql_memory::Memory;
 
-/// The nodes from a position on, and the aggregates among them, in their order.
+/// The nodes from a position on, and the aggregates of operands among them, in their order.
 pub struct Steps {
     /// The position of the first node.
     pub(crate) from: usize,
@@ -37,12 +37,11 @@ struct Stretch {
     last: usize,
 }
 
-/// Returns the aggregate that a node is.
+/// Returns the aggregate of an operand that a node is. COUNT(*) has no operand: it is the number of rows of a group.
 pub(crate) fn aggregate_in(node: Node) -> Option<Aggregate>
     ensures { result ≡ aggregate_of node }
 {
     match node {
-        Node::CountRows => Some(Aggregate::Rows),
         Node::Aggregate(function, place) => Some(Aggregate::Over(function, ExprId { place })),
         _ => None,
     }

@@ -29,9 +29,9 @@ loop-node-preserved c =
           c.after-next.ensures c.loop-node.invariant.few;
       next = next_count t s i next xs _ found given c.requires nodes slice size inside counted c.after-next.result
           c.after-next.ensures;
-      results = λ rows row h k.
+      results = λ rows row n h k.
           subst (AreResults t c.args.group.columns.now rows row s.from) (sym c.in_ok-push.ensures.items)
           (next_result t s i next xs _ found given c.requires nodes slice size inside counted c.args.group.columns.now
-          (row_of c.args.group.key.now) c.args.group.folds.now one c.value_on.ensures.plain c.value_on.ensures.told
-          c.truth_of.ensures rows row h k (c.loop-node.invariant.results rows row h k));
+          (row_of c.args.group.key.now) c.args.group.count c.args.group.folds.now one c.value_on.ensures.plain
+          c.value_on.ensures.told c.truth_of.ensures rows row n h k (c.loop-node.invariant.results rows row n h k));
     }

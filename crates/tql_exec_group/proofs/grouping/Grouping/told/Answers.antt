@@ -20,7 +20,7 @@ returns-in_err-add_numbered c = λ rows h.
     let exprs = map (expr t) c.args.self.now.items.now in
     let n = c.loop-number.number in
     let below : n < length (keys_of columns rows) =
-    omega (arith, c.loop-number-test.true, c.count-groups.ensures rows h.keys) in
+    omega (arith, c.loop-number-test.true, c.count-groups.ensures rows h.grouped.keys) in
     let ss = scopes (Some columns) rows in
     let s = scope_at columns rows n in
     let done = rows_of c.loop-number.made.items in
@@ -40,7 +40,7 @@ loop-number-preserved c = λ rows h.
     let exprs = map (expr t) c.args.self.now.items.now in
     let n = c.loop-number.number in
     let below : n < length (keys_of columns rows) =
-    omega (arith, c.loop-number-test.true, c.count-groups.ensures rows h.keys) in
+    omega (arith, c.loop-number-test.true, c.count-groups.ensures rows h.grouped.keys) in
     let ss = scopes (Some columns) rows in
     one_more_shown conds exprs (scope_at columns rows n) (drop (n + 1) ss) (drop n ss) (rows_of
     c.loop-number.made.items)
@@ -56,6 +56,6 @@ returns c = λ rows h.
     let n = c.loop-number.number in
     let ss = scopes (Some columns) rows in
     let past : length ss ≤ n =
-    omega (arith, c.loop-number-test.false, c.count-groups.ensures rows h.keys, scopes_long columns rows) in
+    omega (arith, c.loop-number-test.false, c.count-groups.ensures rows h.grouped.keys, scopes_long columns rows) in
     all_shown conds exprs ss n (rows_of c.loop-number.made.items) (shown conds exprs ss) past
     (c.loop-number.invariant rows h)
