@@ -4,7 +4,7 @@
 #![tactic(auto)]
 
 ghost use Rattle.std.specs.Prelude.{◌≡◌, ◌+◌, ◌-◌, ◌*◌, IfOk};
-ghost use Rattle.tql_memory.specs.Bytes.{at_most, no_bound};
+ghost use Rattle.tql_memory.specs.Bytes.{at_most, may_reach, can_promise};
 
 use std::alloc::{AllocError, Allocator, Global};
 use std::cell::Cell;
@@ -19,6 +19,26 @@ fn bytes_with(in_use: usize, old: usize, new: usize, each: usize, most: usize) -
     if bytes <= most { Some(bytes) } else { None }
 }
 
+/// Returns how many bytes may be in use after a block of `new` values replaces one of `old` values: `most` less what is
+/// kept back, if the block grows. A block that does not grow is never refused for its bytes.
+fn may_reach(most: usize, kept_back: usize, old: usize, new: usize) -> usize
+    ensures { result ≡ may_reach most kept_back old new }
+{
+    if new > old {
+        most.saturating_sub(kept_back)
+    } else {
+        usize::MAX
+    }
+}
+
+/// Whether `bytes` bytes fit into what is kept back, so that they are granted when all other memory is in use. Where
+/// nothing is kept back, nothing is promised.
+fn can_promise(kept_back: usize, bytes: usize) -> bool
+    ensures { result ≡ can_promise kept_back bytes }
+{
+    kept_back == 0 || bytes <= kept_back
+}
+
 /// The allocation budget.
 #[derive(Drop)]
 struct Grants {
@@ -29,19 +49,20 @@ struct Grants {
     /// The number of bytes that the blocks in use take.
     in_use: Cell<usize>,
     /// The greatest number of bytes that they may take.
-    most: usize,
+    most: Cell<usize>,
+    /// The number of these bytes that are kept back.
+    kept_back: Cell<usize>,
 }
 
 impl Grants {
     /// Creates a budget of `blocks` blocks, and of at most `most` bytes in use.
-    fn new(blocks: u64, most: usize) -> Grants
-        ensures { result.most ≡ most }
-    {
+    fn new(blocks: u64, most: usize) -> Grants {
         Grants {
             blocks: Cell::new(blocks),
             later: Cell::new(0),
             in_use: Cell::new(0),
-            most,
+            most: Cell::new(most),
+            kept_back: Cell::new(0),
         }
     }
 
@@ -62,7 +83,8 @@ impl Grants {
     /// Requests a block of `new` values of `each` bytes in place of one of `old` values. Returns whether it is granted,
     /// and counts it if it is. A refusal because of bytes changes nothing.
     fn take(&self, old: usize, new: usize, each: usize) -> bool {
-        match bytes_with(self.in_use.get(), old, new, each, self.most) {
+        let most = may_reach(self.most.get(), self.kept_back.get(), old, new);
+        match bytes_with(self.in_use.get(), old, new, each, most) {
             Some(bytes) if self.take_block() => {
                 self.in_use.set(bytes);
                 true
@@ -87,7 +109,7 @@ impl Grants {
 /// request that the inner allocator refuses has used up its grant.
 ///
 /// The bytes of a block are in use until it is freed; after a reallocation, those of its new size are in use. A request
-/// that would exceed the limit of bytes in use is refused, and uses up nothing.
+/// for more bytes that would exceed the limit, less what is kept back of it, is refused, and uses up nothing.
 #[derive(Drop)]
 pub struct Counting<B: Allocator> {
     inner: B,
@@ -98,7 +120,6 @@ impl<B: Allocator> Counting<B> {
     /// Creates an allocator over `inner` that grants `granted` blocks. No run requests as many as `u64::MAX`.
     pub fn new(inner: B, granted: u64) -> Counting<B>
         ensures inner { result.inner ≡ inner }
-        ensures most { result.grants.most ≡ no_bound }
     {
         Counting {
             inner,
@@ -109,7 +130,6 @@ impl<B: Allocator> Counting<B> {
     /// Creates an allocator over `inner` that grants blocks as long as no more than `most` bytes are in use.
     pub fn within(inner: B, most: usize) -> Counting<B>
         ensures inner { result.inner ≡ inner }
-        ensures most { result.grants.most ≡ most }
     {
         Counting {
             inner,
@@ -120,6 +140,27 @@ impl<B: Allocator> Counting<B> {
     /// Returns the number of blocks to grant before one is refused.
     pub fn left(&self) -> u64 {
         self.grants.blocks.get()
+    }
+
+    /// Sets the greatest number of bytes in use from now on. Blocks that take more already stay as they are.
+    pub fn bound(&self, most: usize) {
+        self.grants.most.set(most);
+    }
+
+    /// Sets how many bytes of the limit are kept back from now on: requests are refused as if the limit were less by
+    /// as many. Without a limit it changes nothing.
+    pub fn keep_back(&self, bytes: usize) {
+        self.grants.kept_back.set(bytes);
+    }
+
+    /// Fails if what is kept back has no room for `bytes` bytes, so that a later request for them may be refused even
+    /// though what is kept back is granted by then. Takes no memory. Never fails where nothing is kept back.
+    pub fn promise(&self, bytes: usize) -> Result<(), AllocError> {
+        if can_promise(self.grants.kept_back.get(), bytes) {
+            Ok(())
+        } else {
+            Err(AllocError)
+        }
     }
 
     /// Returns the number of bytes of the blocks that were granted and not freed.
@@ -211,18 +252,14 @@ pub type Memory = &'static Counting<Global>;
 ///
 /// The allocator of the handle takes one block of `alloc`, which is not counted and never freed, so a program makes
 /// only one. Fails with `AllocError` if `alloc` refuses the block.
-pub fn memory(alloc: Global, granted: u64) -> Result<Memory, AllocError>
-    ensures { IfOk result (λ handle. handle.now.grants.most ≡ no_bound) }
-{
+pub fn memory(alloc: Global, granted: u64) -> Result<Memory, AllocError> {
     let heap = Box::new(alloc, Counting::new(alloc, granted))?;
     Ok(Box::leak(heap))
 }
 
 /// Creates a handle that grants blocks as long as no more than `most` bytes are in use. As in `memory`, it takes one
 /// block of `alloc`, which is not counted and never freed.
-pub fn memory_within(alloc: Global, most: usize) -> Result<Memory, AllocError>
-    ensures { IfOk result (λ handle. handle.now.grants.most ≡ most) }
-{
+pub fn memory_within(alloc: Global, most: usize) -> Result<Memory, AllocError> {
     let heap = Box::new(alloc, Counting::within(alloc, most))?;
     Ok(Box::leak(heap))
 }
