@@ -1,7 +1,7 @@
 //! The pending text: the statement that is being scanned.
 ghost use Rattle.std.specs.Prelude.{◌≡◌, List, IsTrue, IfOk};
 ghost use Rattle.tql_spec.specs.Script as script;
-ghost use Rattle.tql_splitter.specs.Stream.{Nothing, is_begun, is_text};
+ghost use Rattle.tql_splitter.specs.Stream.{Nothing, Lost, is_begun, is_text};
 ghost use Rattle.tql_splitter.specs.Pending.{Puts, PutsAll, Looks, Ends};
 ghost use Rattle.tql_splitter.specs.Pieces.{StandsFor, Says};
 
@@ -61,11 +61,13 @@ impl PendingText {
         })
     }
 
-    /// Clears the text.
+    /// Clears the text, and frees what a longer text took beyond the room of 65,536 bytes. Otherwise one long text
+    /// would take that memory for the rest of the run.
     pub(crate) fn clear(&mut self)
         ensures { self.new ≡ Nothing }
     {
         self.bytes.clear();
+        self.bytes.shrink_to(ROOM);
         self.holding = Holding::Nothing;
     }
 
@@ -74,6 +76,14 @@ impl PendingText {
         ensures { result ≡ is_begun self.now }
     {
         !matches!(self.holding, Holding::Nothing)
+    }
+
+    /// Drops the text, because an allocation for it was refused.
+    fn lose(&mut self, _refused: AllocError)
+        ensures { self.new ≡ Lost }
+    {
+        self.bytes.clear();
+        self.holding = Holding::Lost;
     }
 
     /// Appends a byte to the text. A text of more than `LONGEST` bytes is dropped, and so is one of more than 65,536
@@ -87,11 +97,11 @@ impl PendingText {
                 if self.bytes.len() == LONGEST {
                     self.bytes.clear();
                     self.holding = Holding::Overlong;
-                } else if self.bytes.push(byte).is_ok() {
-                    self.holding = Holding::Whole;
                 } else {
-                    self.bytes.clear();
-                    self.holding = Holding::Lost;
+                    match self.bytes.push(byte) {
+                        Ok(()) => self.holding = Holding::Whole,
+                        Err(refused) => self.lose(refused.into()),
+                    }
                 }
             }
         }
@@ -112,9 +122,8 @@ impl PendingText {
             if bytes.len() > LONGEST - self.bytes.len() {
                 self.bytes.clear();
                 self.holding = Holding::Overlong;
-            } else if self.bytes.extend_from_slice(bytes).is_err() {
-                self.bytes.clear();
-                self.holding = Holding::Lost;
+            } else if let Err(refused) = self.bytes.extend_from_slice(bytes) {
+                self.lose(refused);
             }
         }
     }
