@@ -163,9 +163,9 @@ module _ (defs : List TableDef) (all : ArePointTables defs) (p : ℤ) where
   effect_good s other r g (CreateTable d) k z = absurd (cc)
   effect_good s other r g (DropTable t) k z = absurd (cc)
   effect_good s other r g (AnswerQuery q) k z = absurd (cc)
-  effect_good s other r g (OpenReader n) k z = absurd (cc)
+  effect_good s other r g (OpenReader n) k z = record { history = g.history; open_then = g.open_then }
   effect_good s other r g (Read n q) k z = absurd (cc)
-  effect_good s other r g (CloseReader n) k z = absurd (cc)
+  effect_good s other r g (CloseReader n) k z = record { history = g.history; open_then = g.open_then }
   effect_good s other r g (SetClock m) k z = record { history = g.history; open_then = g.open_then }
   effect_good s other r g (Prune m) k z =
       record { history = pruned_good m s.history g.history; open_then = g.open_then }

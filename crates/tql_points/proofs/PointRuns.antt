@@ -15,7 +15,8 @@ use Rattle.tql_spec.specs.Query.{Query, answer, in_order}
 use Rattle.tql_spec.specs.Horizon.{pruned}
 use Rattle.tql_spec.specs.Machine.{State, Bound, CreateTable, DropTable, SetClock, Start, Commit, Rollback, ChangeRows}
 use Rattle.tql_spec.specs.Machine.{AnswerQuery, Prune, changed_table, Verb, Reply, Done, Table, Refused}
-use Rattle.tql_spec.specs.Machine.{state_faults, limit_faults, effect, step, unless_refused, asked, bag_of}
+use Rattle.tql_spec.specs.Machine.{state_faults, limit_faults, effect, step, unless_refused, asked, bag_of, bag_in}
+use Rattle.tql_spec.specs.Readers.{pinned_of}
 use Rattle.tql_spec.specs.Script.{Piece}
 use Rattle.tql_spec.specs.Syntax.{Statement, CreateTree, DropTree, InsertValues, InsertSelect, UpdateTree, DeleteTree}
 use Rattle.tql_spec.specs.Syntax.{QueryTree, StartTree, CommitTree, RollbackTree, AtTree, PruneTree}
@@ -30,18 +31,19 @@ use Rattle.tql_spec.proofs.RunKeeps.{no_left, no_right, unless_either}
 use Rattle.tql_points.specs.PointStatement.{statement_at}
 use Rattle.tql_points.specs.Scope.{ArePointTables, is_in_scope, is_change_of}
 use Rattle.tql_points.specs.RefusalLaw.{gives_periods}
-use Rattle.tql_points.specs.PointMachine.{is_refused, beginning, SlicesAgree}
+use Rattle.tql_points.specs.PointMachine.{is_refused, beginning}
 use Rattle.tql_points.specs.StatementScope.{written_names, is_point_constraint, prepares, is_query}
 use Rattle.tql_points.specs.StatementScope.{is_statement_in_scope}
 use Rattle.tql_points.specs.ScopeLaw.{CreationsAreInScope, StatementsAreInScope}
 use Rattle.tql_points.specs.PointRun.{PointMachines, machines_of, after_each, IsFirstRefusal}
 use Rattle.tql_points.specs.PointRun.{GoAlong, RunsBeside, IsAtStart, ArePreparing, AreInScope}
-use Rattle.tql_points.specs.PointRun.{StartsAreKept, RunsAgreeAtPoints}
+use Rattle.tql_points.specs.PointRun.{StartsAreKept, RunsAgreeAtPoints, RunsAgreeBehind}
 use Rattle.tql_points.proofs.Creations.{creation_in_scope}
 use Rattle.tql_points.proofs.GoodStates.{GoodState, GoodEntries, GoodOpen, step_good}
 use Rattle.tql_points.proofs.PointKeys.{constraints_then}
 use Rattle.tql_points.proofs.Refusals.{so_refused, same_refusal, to_points}
-use Rattle.tql_points.proofs.Related.{SameEntries, SameOpen, Related, now_agrees, as_of_agrees}
+use Rattle.tql_points.proofs.Readers.{readers_themselves, slices_agree}
+use Rattle.tql_points.proofs.Related.{SameEntries, SameOpen, Related}
 use Rattle.tql_points.proofs.Steps.{step_faults, step_faults_same, refusal_of, refused_stays, step_same}
 use Rattle.tql_points.proofs.Tables.{not_true}
 use Rattle.tql_points.proofs.Views.{both_true}
@@ -96,9 +98,9 @@ module _ (defs : List TableDef) (all : ArePointTables defs) where
   done_of s (CreateTable d) k e = absurd (cc)
   done_of s (DropTable t) k e = absurd (cc)
   done_of s (AnswerQuery q) k e = absurd (cc)
-  done_of s (OpenReader n) k e = absurd (cc)
+  done_of s (OpenReader n) k e = (_, _, replied _ s _ _ e)
   done_of s (Read n q) k e = absurd (cc)
-  done_of s (CloseReader n) k e = absurd (cc)
+  done_of s (CloseReader n) k e = (_, _, replied _ s _ _ e)
   done_of s (SetClock m) k e = (_, _, replied _ s _ _ e)
   done_of s (Prune m) k e = (_, _, replied _ s _ _ e)
   done_of s Start k e = (_, _, replied _ s _ _ e)
@@ -145,9 +147,9 @@ module _ (defs : List TableDef) (all : ArePointTables defs) where
     first_refusal (CreateTable d) k z e x = absurd (cc)
     first_refusal (DropTable t) k z e x = absurd (cc)
     first_refusal (AnswerQuery q) k z e x = absurd (cc)
-    first_refusal (OpenReader n) k z e x = absurd (cc)
+    first_refusal (OpenReader n) k z e x = by_state (OpenReader n) (λ p. refl) (λ y. refl) e x
     first_refusal (Read n q) k z e x = absurd (cc)
-    first_refusal (CloseReader n) k z e x = absurd (cc)
+    first_refusal (CloseReader n) k z e x = by_state (CloseReader n) (λ p. refl) (λ y. refl) e x
     first_refusal (SetClock m) k z e x = by_state (SetClock m) (λ p. refl) (λ y. refl) e x
     first_refusal (Prune m) k z e x = by_state (Prune m) (λ p. refl) (λ y. refl) e x
     first_refusal Start k z e x = by_state Start (λ p. refl) (λ y. refl) e x
@@ -205,11 +207,11 @@ module _ (defs : List TableDef) (all : ArePointTables defs) where
 
     -- a query, refused or answered
     answered_goes : (x : Piece) (t : Statement) → HasSense x (Says t) → is_query t ≡ true → (q : Query)
-        → (o : Option Refusal)
-        → Goes x (unless_refused o s (asked s q (answer (bag_of s) q)).0 (asked s q (answer (bag_of s) q)).1).0
-        (unless_refused o s (asked s q (answer (bag_of s) q)).0 (asked s q (answer (bag_of s) q)).1).1
-    answered_goes x t h k q None = asked_goes x t h k q (answer (bag_of s) q)
-    answered_goes x t h k q (Some f) = stays x (Refused f) s refl
+        → (found : Option (List Row)) (o : Option Refusal)
+        → Goes x (unless_refused o s (asked s q found).0 (asked s q found).1).0
+        (unless_refused o s (asked s q found).0 (asked s q found).1).1
+    answered_goes x t h k q found None = asked_goes x t h k q found
+    answered_goes x t h k q found (Some f) = stays x (Refused f) s refl
         (refl, inr (Says t, h, λ sound open_then. let never : true ≡ false = sym k ∙ open_then in absurd (cc)))
 
     -- a statement without a fault
@@ -217,13 +219,15 @@ module _ (defs : List TableDef) (all : ArePointTables defs) where
         → (bind defs t).faults ≡ [] → Goes x (step s (bind defs t).value).0 (step s (bind defs t).value).1
     sound_goes x (QueryTree y keys) h k e =
         let q : Query = (select defs y keys).value.query in
-        answered_goes x (QueryTree y keys) h refl q (first (limit_faults s (AnswerQuery q) ++ []))
+        answered_goes x (QueryTree y keys) h refl q (answer (bag_of s) q)
+        (first (limit_faults s (AnswerQuery q) ++ []))
+    sound_goes x (ReadTree n y keys) h k e =
+        let q : Query = (select defs y keys).value.query in
+        answered_goes x (ReadTree n y keys) h refl q
+        (answer (bag_in s.definitions (pinned_of n s.readers)) q) (first (limit_faults s (Read n q) ++ []))
     sound_goes x (CreateTree n y es versioned) h k e = absurd (cc)
     sound_goes x (DropTree n) h k e = absurd (cc)
     sound_goes x (InsertSelect n ns y) h k e = absurd (cc)
-    sound_goes x (OpenTree n) h k e = absurd (cc)
-    sound_goes x (ReadTree n y keys) h k e = absurd (cc)
-    sound_goes x (CloseTree n) h k e = absurd (cc)
     sound_goes x (InsertValues n ns y ys) h k e =
         let w = bound_within defs all (InsertValues n ns y ys) refl k e in
         bound_goes x (InsertValues n ns y ys) h w.scope w.periods
@@ -238,6 +242,8 @@ module _ (defs : List TableDef) (all : ArePointTables defs) where
     sound_goes x RollbackTree h k e = bound_goes x RollbackTree h refl refl
     sound_goes x (AtTree m) h k e = bound_goes x (AtTree m) h refl refl
     sound_goes x (PruneTree m) h k e = bound_goes x (PruneTree m) h refl refl
+    sound_goes x (OpenTree n) h k e = bound_goes x (OpenTree n) h refl refl
+    sound_goes x (CloseTree n) h k e = bound_goes x (CloseTree n) h refl refl
 
     -- a statement that is in scope if it has no fault
     said_goes : (x : Piece) (t : Statement) → HasSense x (Says t)
@@ -286,12 +292,6 @@ module _ (defs : List TableDef) (all : ArePointTables defs) where
 
   -- ---- runs
 
-  slices : (p : ℤ) (s other : State) → Related defs p s other → SlicesAgree defs p s other
-  slices p s other r = record {
-    now = λ t l. now_agrees defs p t l s other r;
-    as_of = λ m t l. as_of_agrees defs p t l m s other r;
-  }
-
   run_beside : (xs : List Piece) (rs : List Reply) (s new : State) (machines : PointMachines)
       → ((p : ℤ) → Related defs p s (machines p)) → GoodState defs s → AreInScope defs xs → Run s xs rs new
       → (after : PointMachines) × RunsBeside defs s machines xs rs new after
@@ -301,9 +301,14 @@ module _ (defs : List TableDef) (all : ArePointTables defs) where
   run_beside (x ∷ xs) (y ∷ rs) s new machines r g scope run =
       let k = answer_goes s machines r g x y run.0 (λ t h. scope x (inl refl) t h) run.1 in
       let more = run_beside xs rs run.0 new k.0 k.2 k.3 (λ z n. scope z (inr n)) run.2 in
-      (more.0, (run.0, k.0, run.1, k.1, (λ p. slices p run.0 (k.0 p) (k.2 p)), more.1))
+      (more.0, (run.0, k.0, run.1, k.1, (λ p. slices_agree defs p run.0 (k.0 p) (k.2 p)), more.1))
 
 -- ---- the statements that create tables
+
+-- a query changes nothing
+asked_stays : (s : State) (q : Query) (o : Option (List Row)) → IsAtStart s → IsAtStart (asked s q o).1
+asked_stays s q None h = h
+asked_stays s q (Some rows) h = h
 
 -- a statement keeps the history empty and the tables in scope
 prepared_stays : (s : State) (t : Statement) → IsTrue (prepares t) → IsAtStart s → (bind s.definitions t).faults ≡ []
@@ -329,10 +334,13 @@ prepared_stays s (InsertValues n ns t ts) k h z = absurd (cc)
 prepared_stays s (InsertSelect n ns y) k h z = absurd (cc)
 prepared_stays s (UpdateTree n p y ss c) k h z = absurd (cc)
 prepared_stays s (DeleteTree n p c) k h z = absurd (cc)
-prepared_stays s (QueryTree y keys) k h z = absurd (cc)
-prepared_stays s (OpenTree n) k h z = absurd (cc)
-prepared_stays s (ReadTree n y keys) k h z = absurd (cc)
-prepared_stays s (CloseTree n) k h z = absurd (cc)
+prepared_stays s (QueryTree y keys) k h z =
+    let q : Query = (select s.definitions y keys).value.query in asked_stays s q (answer (bag_of s) q) h
+prepared_stays s (OpenTree n) k h z = record { tables = h.tables; uncommitted = h.uncommitted; idle = h.idle }
+prepared_stays s (ReadTree n y keys) k h z =
+    let q : Query = (select s.definitions y keys).value.query in
+    asked_stays s q (answer (bag_in s.definitions (pinned_of n s.readers)) q) h
+prepared_stays s (CloseTree n) k h z = record { tables = h.tables; uncommitted = h.uncommitted; idle = h.idle }
 prepared_stays s StartTree k h z = absurd (cc)
 prepared_stays s CommitTree k h z = absurd (cc)
 prepared_stays s RollbackTree k h z = absurd (cc)
@@ -417,7 +425,7 @@ runs_agree s pieces rs new run start made others e scope =
             definitions_then = refl;
             clock = refl;
             horizon = refl;
-            readers = refl;
+            readers = readers_themselves defs p k.mid.readers;
             history = subst (λ (es : List Entry). SameEntries defs p es []) (sym h.uncommitted) tt;
             open_then = subst (λ (o : Option Entry). SameOpen defs p o None) (sym h.idle) tt;
           })
@@ -427,3 +435,18 @@ runs_agree s pieces rs new run start made others e scope =
           })
           inside k.two;
     }
+
+-- ---- after earlier runs
+
+-- two runs, the second after the first
+run_on : (first : List Piece) (heard : List Reply) (old mid new : State) (more : List Piece) (told : List Reply)
+    → Run old first heard mid → Run mid more told new → Run old (first ++ more) (heard ++ told) new
+run_on [] [] old mid new more told r k = subst (λ s. Run s more told new) r k
+run_on [] (h ∷ hs) old mid new more told r k = absurd r
+run_on (f ∷ fs) [] old mid new more told r k = absurd r
+run_on (f ∷ fs) (h ∷ hs) old mid new more told (s, a, r) k = (s, a, run_on fs hs s mid new more told r k)
+
+pub runs_agree_behind : RunsAgreeBehind
+runs_agree_behind s pieces replies new run old earlier answers led =
+    runs_agree old (earlier ++ pieces) (answers ++ replies) new
+    (run_on earlier answers old s new pieces replies led run)

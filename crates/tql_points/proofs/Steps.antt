@@ -1,13 +1,13 @@
 -- A statement that is not refused keeps a state and the state of a point related.
 use Rattle.std.proofs.Common.{◌≡◌, ◌<◌, refl, sym, ap, subst, ◌∙◌, ℕ, zero, suc, true, false, cond, List, [], ◌∷◌, ◌++◌}
-use Rattle.std.proofs.Common.{map, get_or, length, arith}
+use Rattle.std.proofs.Common.{map, filter, get_or, length, arith, inr}
 use Rattle.std.specs.Prelude.{not, ◌&&◌, ◌==◌, nat_lt, ℤ, pos, ◌+ℤ◌, int_le, slice_set, Option, Some, None, is_some}
 use Rattle.std.specs.Prelude.{is_none, Bool, ◌||◌, nat_le, int_lt, if◌then◌else◌}
 use Rattle.std.specs.List.{list_all}
 use Rattle.std.proofs.lemmas.Bool.Decides.{nat_tests}
 use Rattle.std.proofs.lemmas.List.{length-map}
 use Rattle.std.proofs.Math.ListN.{length-set}
-use Rattle.tql_spec.specs.Words.{map_all}
+use Rattle.tql_spec.specs.Words.{map_all, same_text}
 use Rattle.tql_spec.specs.Calendar.{high}
 use Rattle.tql_spec.specs.Refusal.{Refusal, NotInThisTransactionState, MomentNotAllowed, fault_if, first}
 use Rattle.tql_spec.specs.Refusal.{BeforeTheHorizon}
@@ -24,7 +24,7 @@ use Rattle.tql_spec.specs.Machine.{is_not_later, is_clock_at_end, effect, step, 
 use Rattle.tql_spec.specs.Machine.{outcome, changed_table, constraint_faults, verb_of, working, with_working}
 use Rattle.tql_spec.specs.Machine.{with_commit, committed, newest_copy, entries}
 use Rattle.tql_spec.specs.Machine.{OpenReader, Read, CloseReader}
-use Rattle.tql_spec.specs.Readers.{Reader, names_of, is_live, is_any_open, passes_some, reads_plain}
+use Rattle.tql_spec.specs.Readers.{Reader, is_named, is_live, is_any_open, passes_some, reads_plain}
 use Rattle.tql_spec.specs.Limits.{most_readers}
 use Rattle.tql_spec.specs.Refusal.{ReadersAreOpen, ReaderNotUsable, TooManyTablesOrReaders}
 use Rattle.tql_spec.proofs.FirstFaults.{none_first}
@@ -41,7 +41,8 @@ use Rattle.tql_points.proofs.Changes.{modifications_reduce}
 use Rattle.tql_points.proofs.Insertions.{insertions_reduce}
 use Rattle.tql_points.proofs.Numbers.{equal}
 use Rattle.tql_points.proofs.Related.{SameCopy, SameEntry, SameEntries, SameOpen, Related, point_table_at, same_entries}
-use Rattle.tql_points.proofs.Related.{reads_plain_same}
+use Rattle.tql_points.proofs.Readers.{names_same, any_open_same, passes_same, opened_readers, closed_readers}
+use Rattle.tql_points.proofs.Related.{SameReaders, reads_plain_same}
 use Rattle.tql_points.proofs.Tables.{own_sound, reduced_view}
 use Rattle.tql_points.proofs.Views.{both_true}
 
@@ -113,11 +114,11 @@ class_same defs p (CloseReader n) = refl
 abbrev pub step_faults : State → Bound → List Refusal
 step_faults s b = limit_faults s b ++ state_faults s (class_of b)
 
--- the faults of opening a reader among these readers
-abbrev opening_faults : Name → List Reader → List Refusal
-opening_faults n rs =
-    fault_if (nat_le most_readers (length (names_of rs))) TooManyTablesOrReaders
-    ++ fault_if (is_live n rs) ReaderNotUsable
+-- the faults of opening a reader among readers of these names
+abbrev opening_faults : Name → List Name → List Refusal
+opening_faults n names =
+    fault_if (nat_le most_readers (length names)) TooManyTablesOrReaders
+    ++ fault_if (is_named n names) ReaderNotUsable
 
 -- if the constraints of a copy are satisfied, so are those of the point's copy
 abbrev pub ConstraintsThen : List TableDef → ℤ → Type 0
@@ -150,8 +151,8 @@ module _ (defs : List TableDef) (all : ArePointTables defs) (p : ℤ) (constrain
   faults_same s other r Defines =
       ap (λ b. fault_if b NotInThisTransactionState ++ fault_if (is_any_open other.readers) ReadersAreOpen)
       (open_some s.transaction other.transaction r.open_then)
-      ∙ ap (λ rs. fault_if (is_some s.transaction) NotInThisTransactionState
-      ++ fault_if (is_any_open rs) ReadersAreOpen) r.readers
+      ∙ ap (λ b. fault_if (is_some s.transaction) NotInThisTransactionState ++ fault_if b ReadersAreOpen)
+      (any_open_same defs p s.readers other.readers r.readers)
   faults_same s other r (SetsClock None) =
       ap (λ b. fault_if b NotInThisTransactionState) (open_some s.transaction other.transaction r.open_then)
   faults_same s other r (SetsClock (Some m)) =
@@ -176,8 +177,8 @@ module _ (defs : List TableDef) (all : ArePointTables defs) (p : ℤ) (constrain
   faults_same s other r (Prunes (Some m)) =
       ap (λ b. fault_if b NotInThisTransactionState ++ fault_if (passes_some m other.readers) ReadersAreOpen)
       (open_some s.transaction other.transaction r.open_then)
-      ∙ ap (λ rs. fault_if (is_some s.transaction) NotInThisTransactionState
-      ++ fault_if (passes_some m rs) ReadersAreOpen) r.readers
+      ∙ ap (λ b. fault_if (is_some s.transaction) NotInThisTransactionState ++ fault_if b ReadersAreOpen)
+      (passes_same defs p m s.readers other.readers r.readers)
 
   -- the faults of the horizon and the readers are the same
   limits_same : (s other : State) → Related defs p s other → (b : Bound)
@@ -193,11 +194,14 @@ module _ (defs : List TableDef) (all : ArePointTables defs) (p : ℤ) (constrain
   limits_same s other r (ChangeRows (Modify t portion work conds)) = refl
   limits_same s other r (AnswerQuery q) = ap (λ h. query_faults h q) r.horizon
   limits_same s other r (Prune m) = ap (λ h. fault_if (int_lt m h) BeforeTheHorizon) r.horizon
-  limits_same s other r (OpenReader n) = ap (opening_faults n) r.readers
-  limits_same s other r (CloseReader n) = ap (λ rs. fault_if (not (is_live n rs)) ReaderNotUsable) r.readers
+  limits_same s other r (OpenReader n) =
+      ap (opening_faults n) (names_same defs p s.readers other.readers r.readers)
+  limits_same s other r (CloseReader n) =
+      ap (λ names. fault_if (not (is_named n names)) ReaderNotUsable)
+      (names_same defs p s.readers other.readers r.readers)
   limits_same s other r (Read n q) =
-      ap (λ rs. fault_if (not (is_live n rs) || reads_plain other.definitions q) ReaderNotUsable
-      ++ query_faults other.horizon q) r.readers
+      ap (λ names. fault_if (not (is_named n names) || reads_plain other.definitions q) ReaderNotUsable
+      ++ query_faults other.horizon q) (names_same defs p s.readers other.readers r.readers)
       ∙ ap (λ h. fault_if (not (is_live n s.readers) || reads_plain other.definitions q) ReaderNotUsable
       ++ query_faults h q) r.horizon
       ∙ ap (λ ds. fault_if (not (is_live n s.readers) || reads_plain ds q) ReaderNotUsable
@@ -333,6 +337,19 @@ module _ (defs : List TableDef) (all : ArePointTables defs) (p : ℤ) (constrain
     readers = r.readers;
     history = r.history;
     open_then = tt;
+  }
+
+  -- other open readers
+  with_readers : (s other : State) → Related defs p s other → (rs os : List Reader) → SameReaders defs p rs os
+      → Related defs p (record s { readers = rs }) (record other { readers = os })
+  with_readers s other r rs os h = record {
+    definitions = r.definitions;
+    definitions_then = r.definitions_then;
+    clock = r.clock;
+    horizon = r.horizon;
+    readers = h;
+    history = r.history;
+    open_then = r.open_then;
   }
 
   -- the copies left by a horizon
@@ -523,9 +540,21 @@ module _ (defs : List TableDef) (all : ArePointTables defs) (p : ℤ) (constrain
   effect_same s other r (CreateTable d) k e = absurd (cc)
   effect_same s other r (DropTable t) k e = absurd (cc)
   effect_same s other r (AnswerQuery q) k e = absurd (cc)
-  effect_same s other r (OpenReader n) k e = absurd (cc)
+  effect_same s other r (OpenReader n) k e = (
+    refl,
+    with_readers s other r (s.readers ++ record { name = n; pinned = s.history } ∷ [])
+        (other.readers ++ record { name = n; pinned = other.history } ∷ [])
+        (opened_readers defs p (record { name = n; pinned = s.history })
+        (record { name = n; pinned = other.history }) (record { name = refl; pinned = inr r.history })
+        s.readers other.readers r.readers),
+  )
   effect_same s other r (Read n q) k e = absurd (cc)
-  effect_same s other r (CloseReader n) k e = absurd (cc)
+  effect_same s other r (CloseReader n) k e = (
+    refl,
+    with_readers s other r (filter (λ (x : Reader). not (same_text n x.name)) s.readers)
+        (filter (λ (x : Reader). not (same_text n x.name)) other.readers)
+        (closed_readers defs p n s.readers other.readers r.readers),
+  )
   effect_same s other r (SetClock m) k e = (
     refl,
     record {

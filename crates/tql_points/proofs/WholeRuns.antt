@@ -27,7 +27,8 @@ use Rattle.tql_points.proofs.GoodStates.{GoodState, step_good}
 use Rattle.tql_points.proofs.Refusals.{to_points, from_points}
 use Rattle.tql_points.proofs.Views.{both_true}
 use Rattle.tql_points.proofs.PointKeys.{constraints_then}
-use Rattle.tql_points.proofs.Related.{Related, now_agrees, as_of_agrees}
+use Rattle.tql_points.proofs.Readers.{slices_agree}
+use Rattle.tql_points.proofs.Related.{Related}
 use Rattle.tql_points.proofs.Runs.{alike}
 use Rattle.tql_points.proofs.Steps.{refused_stays, step_same}
 
@@ -161,13 +162,8 @@ runs_reduce defs next horizon pieces rs new all scope run =
       k.1,
       λ p. record {
         all = (k.2 p).0;
-        slices = record {
-          now = λ t l. now_agrees defs p t l new
-              (after_all (point_beginning defs next horizon) (map (statement_at defs p) k.0))
-              (k.2 p).1;
-          as_of = λ m t l. as_of_agrees defs p t l m new
-              (after_all (point_beginning defs next horizon) (map (statement_at defs p) k.0)) (k.2 p).1;
-        };
+        slices = slices_agree defs p new
+            (after_all (point_beginning defs next horizon) (map (statement_at defs p) k.0)) (k.2 p).1;
       },
     )
 

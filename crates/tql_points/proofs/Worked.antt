@@ -6,11 +6,11 @@ use Rattle.std.proofs.Common.{arith, inl, inr, subst, sym}
 use Rattle.tql_spec.specs.Bag.{In}
 use Rattle.tql_spec.specs.Datum.{Int, Text, Day, Ints, Texts, Days, Moments, Above, Row}
 use Rattle.tql_spec.specs.Expression.{Expr, Literal, Column, Compare}
-use Rattle.tql_spec.specs.Definition.{TableDef, Key}
+use Rattle.tql_spec.specs.Definition.{Name, TableDef, Key}
 use Rattle.tql_spec.specs.History.{Now}
 use Rattle.tql_spec.specs.Change.{Work}
 use Rattle.tql_spec.specs.Machine.{Bound, ChangeRows, Change, InsertTuples, Modify, Start, Rollback, Prune, Reply, Done}
-use Rattle.tql_spec.specs.Machine.{Refused}
+use Rattle.tql_spec.specs.Machine.{Refused, OpenReader}
 use Rattle.tql_spec.specs.Machine.{Inserted, step}
 use Rattle.tql_spec.specs.Refusal.{DuplicateKey}
 use Rattle.tql_points.specs.Slice.{slice, payloads}
@@ -18,7 +18,7 @@ use Rattle.tql_points.specs.PointTable.{point_table}
 use Rattle.tql_points.specs.Scope.{is_payload, ArePointTables, is_in_scope}
 use Rattle.tql_points.specs.PointStatement.{statement_at}
 use Rattle.tql_points.specs.RefusalLaw.{gives_periods, state_at}
-use Rattle.tql_points.specs.PointMachine.{after_all, accepted, beginning, point_beginning, given_at, answer_of}
+use Rattle.tql_points.specs.PointMachine.{after_all, accepted, beginning, point_beginning, given_at, answer_of, read_of}
 
 -- a versioned table with an application period between its columns 1 and 2, a key WITHOUT OVERLAPS and a CHECK
 abbrev pay : TableDef
@@ -148,3 +148,35 @@ taken_on_day_100 = refl
 idle_on_day_98 : at_day (pos 98) ≡ Done Inserted (Some 0)
 unfolding at_day
 idle_on_day_98 = refl
+
+-- ---- a reader
+
+-- the row for the days 0 to 99; a reader; and 'B' for the days 30 to 59
+abbrev report : Name
+report = 114 ∷ []
+
+abbrev opened : List Bound
+opened =
+    ChangeRows (InsertTuples 0 (0 ∷ 1 ∷ 2 ∷ 4 ∷ []) ((num 7 ∷ day 0 ∷ day 100 ∷ text 65 ∷ []) ∷ []))
+    ∷ OpenReader report
+    ∷ ChangeRows (Modify 0 (Some (record { start = pos 30; end = pos 60 }))
+    (Work.Set (record { column = 4; value = text 66 } ∷ [])) []) ∷ []
+
+opened_in_scope : IsTrue (list_all (is_in_scope (pay ∷ [])) opened)
+opened_in_scope = refl
+
+-- the rows that the reader finds in the whole tables, at a point
+abbrev read_sliced : ℤ → List Row
+read_sliced p = slice pay p (read_of (after_all (beginning (pay ∷ []) (pos 5) (pos 0)) opened) report 0 Now)
+
+-- the rows that it finds in the model of the point
+abbrev read_plain : ℤ → List Row
+read_plain p = payloads (point_table (pay ∷ []) pay)
+    (read_of (after_all (point_beginning (pay ∷ []) (pos 5) (pos 0)) (given_at (pay ∷ []) (pos 5) (pos 0) p opened))
+    report 0 Now)
+
+read_on_day_40 : (read_sliced (pos 40) ≡ says 65) × (read_plain (pos 40) ≡ says 65)
+read_on_day_40 = (refl, refl)
+
+read_on_day_100 : (read_sliced (pos 100) ≡ []) × (read_plain (pos 100) ≡ [])
+read_on_day_100 = (refl, refl)

@@ -7,7 +7,7 @@ use Rattle.tql_spec.specs.Syntax.{DateLiteral, ColumnNamed, Enclosed, Condition,
 use Rattle.tql_spec.specs.Syntax.{Straight, Compared, ContainsPoint, ByName, ByMark, SystemTime, Test, TypeName}
 use Rattle.tql_spec.specs.Syntax.{IntegerType, DateType, TimestampType, RowStart, RowEnd, Generated, Element}
 use Rattle.tql_spec.specs.Syntax.{ColumnElement, PeriodElement, ConstraintElement, KeyTree, CheckTree, CellTree}
-use Rattle.tql_spec.specs.Syntax.{NullCell}
+use Rattle.tql_spec.specs.Syntax.{NullCell, OpenTree, CloseTree}
 use Rattle.tql_spec.specs.Syntax.{ValueCell, DatePoint, Statement, CreateTree, InsertValues, UpdateTree, DeleteTree}
 use Rattle.tql_spec.specs.Creation.{create}
 use Rattle.tql_points.specs.StatementScope.{makes_point_table, is_statement_in_scope}
@@ -118,3 +118,10 @@ system_time_in_where_is_not = refl
 row_start_in_set_is_not : IsFalse (scoped (UpdateTree (codes "EMP") None
     (record { column = codes "ENO"; value = ValueCell (called (codes "S")) }) [] None))
 row_start_in_set_is_not = refl
+
+-- readers change no table
+opening_is_in_scope : IsTrue (scoped (OpenTree (codes "R")))
+opening_is_in_scope = refl
+
+closing_is_in_scope : IsTrue (scoped (CloseTree (codes "R")))
+closing_is_in_scope = refl

@@ -477,6 +477,6 @@ module _ (defs : List TableDef) (all : ArePointTables defs) where
   bound_within RollbackTree q k e = record { scope = refl; periods = refl }
   bound_within (AtTree m) q k e = record { scope = refl; periods = refl }
   bound_within (PruneTree m) q k e = record { scope = refl; periods = refl }
-  bound_within (OpenTree n) q k e = absurd (cc)
+  bound_within (OpenTree n) q k e = record { scope = refl; periods = refl }
   bound_within (ReadTree n s keys) q k e = absurd (cc)
-  bound_within (CloseTree n) q k e = absurd (cc)
+  bound_within (CloseTree n) q k e = record { scope = refl; periods = refl }

@@ -77,7 +77,8 @@ pub record IsAtStart (s : State) : Type 0 where
   pub uncommitted : s.history ≡ []
   pub idle : s.transaction ≡ None
 
--- each piece with a statement creates a table in scope, or sets the clock or the horizon
+-- each piece with a statement creates a table in scope, sets the clock or the horizon, is a query, or opens or closes a
+-- reader
 abbrev pub ArePreparing : List Piece → Type 0
 ArePreparing pieces = (x : Piece) → In x pieces → (t : Statement) → HasSense x (Says t) → IsTrue (prepares t)
 
@@ -88,8 +89,8 @@ AreInScope defs pieces =
     (x : Piece) → In x pieces → (t : Statement) → HasSense x (Says t) → (bind defs t).faults ≡ []
     → IsTrue (is_statement_in_scope defs t)
 
--- the law: statements that create tables or set the clock or the horizon preserve `IsAtStart`. The resulting state is
--- the beginning state for its tables, clock, horizon and open readers.
+-- the law: these statements preserve `IsAtStart`. The resulting state is the beginning state for its tables, clock,
+-- horizon and open readers.
 abbrev pub StartsAreKept : Type 0
 StartsAreKept =
     (s : State) (pieces : List Piece) (replies : List Reply) (new : State) → IsAtStart s → ArePreparing pieces
@@ -120,3 +121,16 @@ abbrev pub RunsAgreeAtPoints : Type 0
 RunsAgreeAtPoints =
     (s : State) (pieces : List Piece) (replies : List Reply) (new : State) → Run s pieces replies new
     → AgreesAtPoints s pieces replies new
+
+-- after any earlier run that led to the state, the two runs as one agree with the models of all points; the earlier run
+-- may be empty
+abbrev pub AgreesBehind : State → List Piece → List Reply → State → Type 0
+AgreesBehind s pieces replies new =
+    (old : State) (earlier : List Piece) (answers : List Reply) → Run old earlier answers s
+    → AgreesAtPoints old (earlier ++ pieces) (answers ++ replies) new
+
+-- the law: every run does
+abbrev pub RunsAgreeBehind : Type 0
+RunsAgreeBehind =
+    (s : State) (pieces : List Piece) (replies : List Reply) (new : State) → Run s pieces replies new
+    → AgreesBehind s pieces replies new

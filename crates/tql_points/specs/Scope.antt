@@ -10,7 +10,7 @@ use Rattle.tql_spec.specs.Change.{Assignment, Work}
 use Rattle.tql_spec.specs.Machine.{Change, InsertTuples, InsertQuery, Modify, Bound, CreateTable, DropTable}
 use Rattle.tql_spec.specs.Machine.{ChangeRows, AnswerQuery, changed_table}
 use Rattle.tql_spec.specs.AtPoints.{parent_at}
-use Rattle.tql_spec.specs.Machine.{OpenReader, Read, CloseReader}
+use Rattle.tql_spec.specs.Machine.{Read}
 use Rattle.tql_points.specs.Slice.{own_columns, payload_columns}
 
 -- ---- expressions that name no period
@@ -65,14 +65,13 @@ is_change_of d (InsertTuples t columns tuples) = are_filled d columns
 is_change_of d (InsertQuery t columns q) = false
 is_change_of d (Modify t portion work conds) = is_free_work d work && list_all (is_free_cond d) conds
 
--- whether a statement is one of these changes of an existing table, or concerns transactions, the clock or the horizon
+-- whether a statement is one of these changes of an existing table, or concerns transactions, the clock, the horizon or
+-- the open readers
 abbrev pub is_in_scope : List TableDef → Bound → Bool
 is_in_scope defs (CreateTable d) = false
 is_in_scope defs (DropTable t) = false
 is_in_scope defs (ChangeRows c) =
     nat_lt (changed_table c) (length defs) && is_change_of (table_at defs (changed_table c)) c
 is_in_scope defs (AnswerQuery q) = false
-is_in_scope defs (OpenReader n) = false
 is_in_scope defs (Read n q) = false
-is_in_scope defs (CloseReader n) = false
 is_in_scope defs b = true

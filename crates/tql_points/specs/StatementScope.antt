@@ -35,10 +35,15 @@ makes_point_table (CreateTree n e es versioned) =
     && list_all (is_point_constraint (written_names (e ∷ es))) (constraints_of (e ∷ es))
 makes_point_table _ = false
 
--- whether a statement creates a table of this form, or sets the clock or the horizon
+-- whether a statement creates a table of this form, sets the clock or the horizon, is a query, or opens or closes a
+-- reader
 abbrev pub prepares : Statement → Bool
 prepares (AtTree m) = true
 prepares (PruneTree m) = true
+prepares (QueryTree s keys) = true
+prepares (OpenTree n) = true
+prepares (ReadTree n s keys) = true
+prepares (CloseTree n) = true
 prepares t = makes_point_table t
 
 -- ---- the periods of an INSERT
@@ -105,13 +110,15 @@ change_avoids sets c d = list_all (set_avoids (own_names d)) sets && filter_avoi
 abbrev pub of_table : Name → (TableDef → Bool) → List TableDef → Bool
 of_table n test defs = list_all (λ (d : TableDef). not (same_text n d.name) || test d) defs
 
--- whether a statement is a query
+-- whether a statement is a query, of the tables or of a reader
 abbrev pub is_query : Statement → Bool
 is_query (QueryTree s keys) = true
+is_query (ReadTree n s keys) = true
 is_query _ = false
 
 -- whether a statement is in scope: an INSERT of tuples with rising periods, or an UPDATE or a DELETE that names a
--- period only as its portion. Transaction statements, AT, PRUNE HISTORY and queries are in scope too.
+-- period only as its portion. Transaction statements, AT, PRUNE HISTORY, queries and the statements of readers are in
+-- scope too.
 abbrev pub is_statement_in_scope : List TableDef → Statement → Bool
 is_statement_in_scope defs (CreateTree n e es versioned) = false
 is_statement_in_scope defs (DropTree n) = false
@@ -125,6 +132,6 @@ is_statement_in_scope defs CommitTree = true
 is_statement_in_scope defs RollbackTree = true
 is_statement_in_scope defs (AtTree m) = true
 is_statement_in_scope defs (PruneTree m) = true
-is_statement_in_scope defs (OpenTree n) = false
-is_statement_in_scope defs (ReadTree n s keys) = false
-is_statement_in_scope defs (CloseTree n) = false
+is_statement_in_scope defs (OpenTree n) = true
+is_statement_in_scope defs (ReadTree n s keys) = true
+is_statement_in_scope defs (CloseTree n) = true

@@ -6,7 +6,7 @@ ghost use Rattle.tql_points.specs.ChangeLaw.{SlicesAreThere, InsertionsReduce, M
 ghost use Rattle.tql_points.specs.FaultLaw.{ModificationRefusals, InsertionRefusals};
 ghost use Rattle.tql_points.specs.PointMachine.{SnapshotsReduce};
 ghost use Rattle.tql_points.specs.RefusalLaw.{RefusalsReduce};
-ghost use Rattle.tql_points.specs.PointRun.{StartsAreKept, RunsAgreeAtPoints};
+ghost use Rattle.tql_points.specs.PointRun.{StartsAreKept, RunsAgreeAtPoints, RunsAgreeBehind};
 ghost use Rattle.tql_points.specs.RunLaw.{RunsReduce, RunRefusalsReduce};
 ghost use Rattle.tql_points.specs.ScopeLaw.{CreationsAreInScope, StatementsAreInScope};
 
@@ -58,8 +58,10 @@ pub fn written_in_scope()
 /// Every run of statements that create tables, followed by statements in scope, agrees with the models of all points.
 /// If a statement is executed, each point executes it. A statement other than a query that is refused for its effect,
 /// and not for its text, names, kinds, forms, literals or memory, has the first refusal of the points. After each
-/// answer the slices, now and as of each moment, are the answers of the points.
+/// answer the slices, now, as of each moment and in what readers pinned, are the answers of the points. After earlier
+/// runs a run agrees too (`behind`): with them it is one run.
 pub fn runs_agree_at_points()
     ensures starts { StartsAreKept }
     ensures runs { RunsAgreeAtPoints }
+    ensures behind { RunsAgreeBehind }
 {}
