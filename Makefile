@@ -1,5 +1,6 @@
 .PHONY: help quick run build install test edits lint lines earned bench-index
 .PHONY: try-copies try-readers try-points try-devices try-fuzz try-growth-times try-plans try-round-trip try-details
+.PHONY: map
 .NOTPARALLEL:
 SECONDS ?= 60
 PREFIX ?= /usr/local
@@ -17,6 +18,7 @@ To prove and test:
   make edits        tries the must-fail edits, which the prover must refuse: all, or CRATE=name, or EDIT=name too
   make lines        tries the command lines of the program, in a minute or two and without a proof
   make lint         checks code, documents and what each crate costs the gate, in seconds
+  make map          prints what each crate is, by area; with CRATE=name what the modules of one are
 To measure and to try at length:
   make bench-index  proves and runs the program that times the indexes; COUNTS="1000 10000" are its numbers of entries
   make try-NAME     copies, readers, points: are the generated cases up to date? devices, fuzz (SECONDS=60), growth-times,
@@ -53,6 +55,9 @@ lines:
 
 lint:
 	@status=0; for it in earned cost documents; do tools/$$it.py || status=1; done; exit $$status
+
+map:
+	@tools/map.py $(CRATE)
 
 earned:
 	@tools/earned.py

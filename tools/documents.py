@@ -3,7 +3,7 @@
 
 Usage: tools/documents.py [--count]        (make lint)
 
-The documents are README.md, CHANGELOG.md, docs/*.md and the README.md files of crates, benches and examples. What is checked:
+The documents are README.md, CHANGELOG.md, docs/*.md, docs/areas/*.md and the README.md files of crates, benches and examples. What is checked:
 
 - Each crate that they name (tql_*, test_*) is in crates/.
 - Each path from the top (crates/.., docs/.., tools/.., benches/.., examples/..), from a crate (tql_lex/src/scan.rt) or in one
@@ -11,7 +11,7 @@ The documents are README.md, CHANGELOG.md, docs/*.md and the README.md files of 
   for any name.
 - Each name in backticks (Engine::step) is in the sources outside of comments. CHANGELOG.md and the pages of docs/ for users are left out: their
   names are those of SQL.
-- Each crate has its line in docs/ARCHITECTURE.md.
+- Each crate is in an area of crates.txt, and it and each of its modules has a comment at its head: tools/map.py prints these.
 - In each line '| `Module` | 12 |' of docs/DEFINITIONS.md the number is the module's count of lines (of tql_spec, or of the named file of another
   crate). --count writes the numbers anew.
 - A line of .rt and .antt has at most 120 characters, except the attributes #[tactic(..)], which the formatter joins.
@@ -26,6 +26,7 @@ import sys
 from pathlib import Path
 
 sys.dont_write_bytecode = True
+import map as crate_map  # noqa: E402
 import pages  # noqa: E402
 
 TOP = Path(__file__).resolve().parent.parent
@@ -45,7 +46,7 @@ COUNTED = re.compile(r"^\| `([\w/.]+)` \| (\d+) \|", re.M)
 
 
 def documents() -> list[Path]:
-    places = ("README.md", "CHANGELOG.md", "docs/*.md", "crates/*/README.md", "benches/README.md", "examples/README.md")
+    places = ("README.md", "CHANGELOG.md", "docs/*.md", "docs/areas/*.md", "crates/*/README.md", "benches/README.md", "examples/README.md")
     return [it for place in places for it in sorted(TOP.glob(place))]
 
 
@@ -113,8 +114,7 @@ def main(words: list[str]) -> int:
             wrong += [f"{said}: there is no {it}" for it in NAMED.findall(line) if not is_there(it, document, files, crates)]
             if document.name not in OF_SQL:
                 wrong += [f"{said}: no source names {it}" for it in QUOTED.findall(line) if not named.issuperset(it.split("::"))]
-    rows = (TOP / "docs" / "ARCHITECTURE.md").read_text(encoding="utf-8")
-    wrong += [f"docs/ARCHITECTURE.md: no line of the crate {it}" for it in sorted(crates) if f"\n| {it} |" not in rows]
+    wrong += crate_map.faults()
     for path, source in sources.items():
         for at, line in enumerate(source.split("\n"), 1):
             if len(line) > COLUMNS and not line.lstrip().startswith("#[tactic("):
