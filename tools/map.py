@@ -4,7 +4,7 @@
 Usage: tools/map.py [CRATE]        (make map; make map CRATE=NAME)
 
 The areas, their order and the order of the crates in them are those of crates.txt. tools/documents.py calls `faults`: each crate of the folder
-stands in crates.txt below an area, and each crate and each module has a head.
+stands in crates.txt below an area, each crate and each module has a head, and the page of its area in docs/areas/ names each crate.
 """
 import re
 import sys
@@ -13,6 +13,8 @@ from pathlib import Path
 
 TOP = Path(__file__).resolve().parent.parent
 AREA, CRATE = re.compile(r"^# ---- (\w+): (.*)$"), re.compile(r"^(\w+):")
+# The pages of an area, where it is not docs/areas/AREA.md.
+PAGES = {"do": ("change", "query")}
 SENTENCE = re.compile(r"(.*?\.)(?=\s+[A-Z`]|$)", re.S)
 
 
@@ -62,10 +64,16 @@ def printed(name: str, text: str, indent: str) -> str:
 
 def faults() -> list[str]:
     """Returns the crates and modules that the map would leave out or show without a word."""
-    wrong, listed = [], {it for _, _, crates in areas() for it in crates}
+    wrong, listed = [], {}
+    for area, _, crates in areas():
+        pages = [TOP / "docs" / "areas" / f"{it}.md" for it in PAGES.get(area, (area,))]
+        named = set(re.findall(r"\w+", " ".join(it.read_text(encoding="utf-8") for it in pages if it.exists())))
+        listed.update({it: it in named for it in crates})
     for crate in sorted(it.name for it in (TOP / "crates").iterdir() if it.is_dir()):
         if crate not in listed:
             wrong.append(f"crates.txt: no area has the crate {crate}")
+        elif not listed[crate]:
+            wrong.append(f"docs/areas: the page of its area does not name {crate}")
         wrong += [f"{it.relative_to(TOP)}: no comment at its head" for it in [root(crate), *modules(crate)] if not head(it)]
     return wrong
 
