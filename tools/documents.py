@@ -3,7 +3,7 @@
 
 Usage: tools/documents.py [--count]        (make lint)
 
-The documents are README.md, CHANGELOG.md, docs/*.md, docs/areas/*.md and the README.md files of crates, benches and examples. What is checked:
+The documents are the pages at the top, docs/*.md, docs/areas/*.md and the README.md files of crates, benches and examples. What is checked:
 
 - Each crate that they name (tql_*, test_*) is in crates/.
 - Each path from the top (crates/.., docs/.., tools/.., benches/.., examples/..), from a crate (tql_lex/src/scan.rt) or in one
@@ -46,7 +46,7 @@ COUNTED = re.compile(r"^\| `([\w/.]+)` \| (\d+) \|", re.M)
 
 
 def documents() -> list[Path]:
-    places = ("README.md", "CHANGELOG.md", "docs/*.md", "docs/areas/*.md", "crates/*/README.md", "benches/README.md", "examples/README.md")
+    places = ("*.md", "docs/*.md", "docs/areas/*.md", "crates/*/README.md", "benches/README.md", "examples/README.md")
     return [it for place in places for it in sorted(TOP.glob(place))]
 
 

@@ -258,7 +258,7 @@ def faults(documents: list[Path]) -> list[str]:
 
 
 def main(words: list[str]) -> int:
-    documents = [TOP / "README.md", TOP / "CHANGELOG.md", TOP / "examples" / "README.md", *sorted((TOP / "docs").glob("*.md"))]
+    documents = [*sorted(TOP.glob("*.md")), TOP / "examples" / "README.md", *sorted((TOP / "docs").rglob("*.md"))]
     wrong = faults(documents) + [it for program in words for it in [*client_faults(program), *box_faults(program)]]
     print("".join(f"{it}\n" for it in wrong) + f"{len(PAGES)} pages with examples, {len(wrong)} wrong")
     return 1 if wrong else 0
