@@ -1,6 +1,6 @@
 .PHONY: help quick run build install test edits lint lines earned bench-index
 .PHONY: try-copies try-readers try-points try-devices try-fuzz try-growth-times try-plans try-round-trip try-details
-.PHONY: map
+.PHONY: map words
 .NOTPARALLEL:
 SECONDS ?= 60
 PREFIX ?= /usr/local
@@ -19,6 +19,7 @@ To prove and test:
   make lines        tries the command lines of the program, in a minute or two and without a proof
   make lint         checks code, documents and what each crate costs the gate, in seconds
   make map          prints what each crate is, by area; with CRATE=name what the modules of one are
+  make words        counts the words of the documents, by page
 To measure and to try at length:
   make bench-index  proves and runs the program that times the indexes; COUNTS="1000 10000" are its numbers of entries
   make try-NAME     copies, readers, points: are the generated cases up to date? devices, fuzz (SECONDS=60), growth-times,
@@ -58,6 +59,9 @@ lint:
 
 map:
 	@tools/map.py $(CRATE)
+
+words:
+	@tools/words.py --look
 
 earned:
 	@tools/earned.py

@@ -16,6 +16,7 @@ The documents are the pages at the top, docs/*.md, docs/areas/*.md and the READM
   crate). --count writes the numbers anew.
 - A line of .rt and .antt has at most 120 characters, except the attributes #[tactic(..)], which the formatter joins.
 - No document has a mark of a merge that was left open.
+- All documents together have at most the number of words of tools/words.py.
 - Examples and links: see tools/pages.py.
 
 The status is 1 if something is wrong.
@@ -28,6 +29,7 @@ from pathlib import Path
 sys.dont_write_bytecode = True
 import map as crate_map  # noqa: E402
 import pages  # noqa: E402
+import words as word_counts  # noqa: E402
 
 TOP = Path(__file__).resolve().parent.parent
 COLUMNS = 120
@@ -119,7 +121,7 @@ def main(words: list[str]) -> int:
         for at, line in enumerate(source.split("\n"), 1):
             if len(line) > COLUMNS and not line.lstrip().startswith("#[tactic("):
                 wrong.append(f"{path}:{at}: {len(line)} characters, at most {COLUMNS}")
-    wrong += pages.faults(documents())
+    wrong += pages.faults(documents()) + word_counts.faults()
     print("".join(f"{it}\n" for it in wrong) + f"{len(documents())} documents, {len(wrong)} wrong")
     return 1 if wrong else 0
 
