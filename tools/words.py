@@ -6,6 +6,7 @@ Usage: tools/words.py [--look]        (make words prints each page; make lint ch
 A word is what blanks separate, as `wc -w` counts. A page that says something new makes room by saying something else shorter. If pages became
 shorter, lower the bound. The status is 1 if it is broken.
 """
+import os
 import sys
 from pathlib import Path
 
@@ -15,8 +16,11 @@ BOUND = 66_000
 
 def pages() -> dict[str, int]:
     """Returns the words of each page, by its path."""
-    found = sorted(it for end in ("*.md", "*.1") for it in TOP.rglob(end) if not {".git", "out"} & set(it.relative_to(TOP).parts))
-    return {str(it.relative_to(TOP)): len(it.read_text(encoding="utf-8").split()) for it in found}
+    found = []
+    for folder, folders, files in os.walk(TOP):
+        folders[:] = [it for it in folders if it not in (".git", "out", "data")]
+        found += [Path(folder, it) for it in files if it.endswith((".md", ".1"))]
+    return {str(it.relative_to(TOP)): len(it.read_text(encoding="utf-8").split()) for it in sorted(found)}
 
 
 def faults() -> list[str]:
