@@ -263,7 +263,7 @@ place_named n (x ∷ defs) t e = by_bool (same_text n x.name)
     further (Some k) h q = subst (λ i. same_text n (table_at (x ∷ defs) i).name ≡ true) (some_is q) (h k refl)
 
 -- the index remains the same if tables are appended
-place_more : (n : Name) (defs more : List TableDef) (t : ℕ) → place_of n defs ≡ Some t
+pub place_more : (n : Name) (defs more : List TableDef) (t : ℕ) → place_of n defs ≡ Some t
     → place_of n (defs ++ more) ≡ Some t
 place_more n [] more t e = absurd (cc)
 place_more n (x ∷ defs) more t e = by_bool (same_text n x.name)

@@ -10,7 +10,7 @@ use Rattle.tql_spec.specs.Definition.{Name, TableDef, Key}
 use Rattle.tql_spec.specs.History.{Now}
 use Rattle.tql_spec.specs.Change.{Work}
 use Rattle.tql_spec.specs.Machine.{Bound, ChangeRows, Change, InsertTuples, Modify, Start, Rollback, Prune, Reply, Done}
-use Rattle.tql_spec.specs.Machine.{Refused, OpenReader}
+use Rattle.tql_spec.specs.Machine.{State, Refused, OpenReader, CreateTable, DropTable}
 use Rattle.tql_spec.specs.Machine.{Inserted, step}
 use Rattle.tql_spec.specs.Refusal.{DuplicateKey}
 use Rattle.tql_points.specs.Slice.{slice, payloads}
@@ -180,3 +180,30 @@ read_on_day_40 = (refl, refl)
 
 read_on_day_100 : (read_sliced (pos 100) ≡ []) × (read_plain (pos 100) ≡ [])
 read_on_day_100 = (refl, refl)
+
+-- ---- a table that is made later, and one that is dropped
+
+-- the table of a point
+abbrev plain_pay : TableDef
+plain_pay = point_table (pay ∷ []) pay
+
+abbrev tax : TableDef
+tax = record pay { name = 116 ∷ [] }
+
+-- the model of a point, given the table and then the dropping of the first one
+abbrev one_more : State
+one_more = after_all (point_beginning (pay ∷ []) (pos 5) (pos 0))
+    (statement_at (pay ∷ []) (pos 10) (CreateTable tax) ∷ [])
+
+abbrev one_fewer : State
+one_fewer = after_all one_more (statement_at (pay ∷ tax ∷ []) (pos 10) (DropTable 0) ∷ [])
+
+plain_tables_made : one_more.definitions ≡ plain_pay ∷ record plain_pay { name = 116 ∷ [] } ∷ []
+plain_tables_made = refl
+
+plain_tables_left : one_fewer.definitions ≡ record plain_pay { name = 116 ∷ [] } ∷ []
+plain_tables_left = refl
+
+-- it has neither the period nor its columns
+plain_columns : (length plain_pay.columns ≡ 4) × (plain_pay.application ≡ None)
+plain_columns = (refl, refl)

@@ -7,7 +7,7 @@ use Rattle.tql_spec.specs.Syntax.{DateLiteral, ColumnNamed, Enclosed, Condition,
 use Rattle.tql_spec.specs.Syntax.{Straight, Compared, ContainsPoint, ByName, ByMark, SystemTime, Test, TypeName}
 use Rattle.tql_spec.specs.Syntax.{IntegerType, DateType, TimestampType, RowStart, RowEnd, Generated, Element}
 use Rattle.tql_spec.specs.Syntax.{ColumnElement, PeriodElement, ConstraintElement, KeyTree, CheckTree, CellTree}
-use Rattle.tql_spec.specs.Syntax.{NullCell, OpenTree, CloseTree}
+use Rattle.tql_spec.specs.Syntax.{NullCell, DropTree, OpenTree, CloseTree}
 use Rattle.tql_spec.specs.Syntax.{ValueCell, DatePoint, Statement, CreateTree, InsertValues, UpdateTree, DeleteTree}
 use Rattle.tql_spec.specs.Creation.{create}
 use Rattle.tql_points.specs.StatementScope.{makes_point_table, is_statement_in_scope}
@@ -118,6 +118,15 @@ system_time_in_where_is_not = refl
 row_start_in_set_is_not : IsFalse (scoped (UpdateTree (codes "EMP") None
     (record { column = codes "ENO"; value = ValueCell (called (codes "S")) }) [] None))
 row_start_in_set_is_not = refl
+
+created_later_is_in_scope : IsTrue (scoped (emp rest))
+created_later_is_in_scope = refl
+
+plain_table_is_not : IsFalse (scoped (CreateTree (codes "P") eno [] false))
+plain_table_is_not = refl
+
+dropping_is_in_scope : IsTrue (scoped (DropTree (codes "EMP")))
+dropping_is_in_scope = refl
 
 -- readers change no table
 opening_is_in_scope : IsTrue (scoped (OpenTree (codes "R")))

@@ -46,7 +46,7 @@ use Rattle.tql_points.specs.Scope.{are_filled, is_in_scope}
 use Rattle.tql_points.specs.RefusalLaw.{is_point, has_points, has_period, once, gives_period, gives_periods}
 use Rattle.tql_points.specs.StatementScope.{point_of_sum, point_of_primary, point_in, cell_for, do_rise, cells_rise}
 use Rattle.tql_points.specs.StatementScope.{tuple_rises, own_names, cell_avoids, set_avoids, change_avoids, of_table}
-use Rattle.tql_points.specs.StatementScope.{is_query, is_statement_in_scope}
+use Rattle.tql_points.specs.StatementScope.{is_query, defines, is_statement_in_scope}
 use Rattle.tql_points.specs.NamesAvoided.{filter_avoids}
 use Rattle.tql_points.proofs.Avoided.{IsClear, AreClear, sum_free, filter_free}
 use Rattle.tql_points.proofs.Creations.{name_in, all_member, member_all, place_within, place_named}
@@ -463,20 +463,20 @@ module _ (defs : List TableDef) (all : ArePointTables defs) where
       }
 
   -- a statement in scope without a fault
-  pub bound_within : (t : Statement) → is_query t ≡ false → is_statement_in_scope defs t ≡ true
-      → (bind defs t).faults ≡ [] → IsWithin (bind defs t).value
-  bound_within (CreateTree n x es versioned) q k e = absurd (cc)
-  bound_within (DropTree n) q k e = absurd (cc)
-  bound_within (InsertValues n ns t ts) q k e = insert_within n ns (t ∷ ts) e k
-  bound_within (InsertSelect n ns s) q k e = absurd (cc)
-  bound_within (UpdateTree n p s ss c) q k e = update_within n p (s ∷ ss) c e k
-  bound_within (DeleteTree n p c) q k e = delete_within n p c e k
-  bound_within (QueryTree s keys) q k e = absurd (cc)
-  bound_within StartTree q k e = record { scope = refl; periods = refl }
-  bound_within CommitTree q k e = record { scope = refl; periods = refl }
-  bound_within RollbackTree q k e = record { scope = refl; periods = refl }
-  bound_within (AtTree m) q k e = record { scope = refl; periods = refl }
-  bound_within (PruneTree m) q k e = record { scope = refl; periods = refl }
-  bound_within (OpenTree n) q k e = record { scope = refl; periods = refl }
-  bound_within (ReadTree n s keys) q k e = absurd (cc)
-  bound_within (CloseTree n) q k e = record { scope = refl; periods = refl }
+  pub bound_within : (t : Statement) → is_query t ≡ false → defines t ≡ false
+      → is_statement_in_scope defs t ≡ true → (bind defs t).faults ≡ [] → IsWithin (bind defs t).value
+  bound_within (CreateTree n x es versioned) q l k e = absurd (cc)
+  bound_within (DropTree n) q l k e = absurd (cc)
+  bound_within (InsertValues n ns t ts) q l k e = insert_within n ns (t ∷ ts) e k
+  bound_within (InsertSelect n ns s) q l k e = absurd (cc)
+  bound_within (UpdateTree n p s ss c) q l k e = update_within n p (s ∷ ss) c e k
+  bound_within (DeleteTree n p c) q l k e = delete_within n p c e k
+  bound_within (QueryTree s keys) q l k e = absurd (cc)
+  bound_within StartTree q l k e = record { scope = refl; periods = refl }
+  bound_within CommitTree q l k e = record { scope = refl; periods = refl }
+  bound_within RollbackTree q l k e = record { scope = refl; periods = refl }
+  bound_within (AtTree m) q l k e = record { scope = refl; periods = refl }
+  bound_within (PruneTree m) q l k e = record { scope = refl; periods = refl }
+  bound_within (OpenTree n) q l k e = record { scope = refl; periods = refl }
+  bound_within (ReadTree n s keys) q l k e = absurd (cc)
+  bound_within (CloseTree n) q l k e = record { scope = refl; periods = refl }

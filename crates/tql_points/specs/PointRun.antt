@@ -11,7 +11,7 @@ use Rattle.tql_spec.specs.Run.{Sense, Says, Faulty, HasSense, Answers, Run}
 use Rattle.tql_points.specs.PointStatement.{statement_at}
 use Rattle.tql_points.specs.Scope.{ArePointTables}
 use Rattle.tql_points.specs.PointMachine.{is_refused, beginning, point_beginning, SlicesAgree}
-use Rattle.tql_points.specs.StatementScope.{prepares, is_query, is_statement_in_scope}
+use Rattle.tql_points.specs.StatementScope.{prepares, is_query, defines, is_statement_in_scope}
 
 -- ---- the models of all points
 
@@ -64,12 +64,12 @@ GoAlong defs old x (Refused e) new =
 -- ---- runs
 
 -- the answers to the pieces and the models at each step; after each answer, the slices agree at each point
-abbrev pub RunsBeside : List TableDef → State → PointMachines → List Piece → List Reply → State → PointMachines → Type 0
-RunsBeside defs s machines [] [] new after = (new ≡ s) × (after ≡ machines)
-RunsBeside defs s machines (x ∷ xs) (r ∷ rs) new after =
-    (mid : State) × (next : PointMachines) × Answers s x r mid × GoAlong defs machines x r next
-    × ((p : ℤ) → SlicesAgree defs p mid (next p)) × RunsBeside defs mid next xs rs new after
-RunsBeside defs s machines _ _ new after = ⊥
+abbrev pub RunsBeside : State → PointMachines → List Piece → List Reply → State → PointMachines → Type 0
+RunsBeside s machines [] [] new after = (new ≡ s) × (after ≡ machines)
+RunsBeside s machines (x ∷ xs) (r ∷ rs) new after =
+    (mid : State) × (next : PointMachines) × Answers s x r mid × GoAlong s.definitions machines x r next
+    × ((p : ℤ) → SlicesAgree mid.definitions p mid (next p)) × RunsBeside mid next xs rs new after
+RunsBeside s machines _ _ new after = ⊥
 
 -- tables in scope, with no commit and no open transaction, so all are empty
 pub record IsAtStart (s : State) : Type 0 where
@@ -82,12 +82,29 @@ pub record IsAtStart (s : State) : Type 0 where
 abbrev pub ArePreparing : List Piece → Type 0
 ArePreparing pieces = (x : Piece) → In x pieces → (t : Statement) → HasSense x (Says t) → IsTrue (prepares t)
 
--- each piece with a statement has one in scope, or one with a fault in its names, kinds, forms or literals. The latter
--- is refused and is not given to the models.
-abbrev pub AreInScope : List TableDef → List Piece → Type 0
-AreInScope defs pieces =
+-- a piece with a statement has one in scope of these tables, or one with a fault in its names, kinds, forms or
+-- literals. The latter is refused and is not given to the models.
+abbrev pub IsInScope : List TableDef → Piece → Type 0
+IsInScope defs x =
+    (t : Statement) → HasSense x (Says t) → (bind defs t).faults ≡ [] → IsTrue (is_statement_in_scope defs t)
+
+-- each piece is in scope of the tables that there are when it is answered
+abbrev pub AreInScope : State → List Piece → List Reply → Type 0
+AreInScope s (x ∷ xs) (r ∷ rs) =
+    IsInScope s.definitions x × ((mid : State) → Answers s x r mid → AreInScope mid xs rs)
+AreInScope s _ _ = Unit {0}
+
+-- each piece is in scope of the same tables, and creates and drops none
+abbrev pub AreInScopeOf : List TableDef → List Piece → Type 0
+AreInScopeOf defs pieces =
     (x : Piece) → In x pieces → (t : Statement) → HasSense x (Says t) → (bind defs t).faults ≡ []
-    → IsTrue (is_statement_in_scope defs t)
+    → IsTrue (is_statement_in_scope defs t) × IsFalse (defines t)
+
+-- the law: such pieces are in scope of the tables that there are
+abbrev pub ScopesAreKept : Type 0
+ScopesAreKept =
+    (s : State) (pieces : List Piece) (replies : List Reply) → AreInScopeOf s.definitions pieces
+    → AreInScope s pieces replies
 
 -- the law: these statements preserve `IsAtStart`. The resulting state is the beginning state for its tables, clock,
 -- horizon and open readers.
@@ -98,7 +115,8 @@ StartsAreKept =
     → IsAtStart new
     × (new ≡ record (beginning new.definitions new.next new.horizon) { readers = new.readers })
 
--- the first pieces create tables; if the later ones are in scope, they run in agreement with the models of all points
+-- the first pieces create tables, or there are none; if the later ones are in scope, they run in agreement with the
+-- models of all points
 pub record RunsAtPoints (s : State) (made others : List Piece) (replies : List Reply) (new : State) : Type 0 where
   pub first : List Reply
   pub later : List Reply
@@ -107,8 +125,8 @@ pub record RunsAtPoints (s : State) (made others : List Piece) (replies : List R
   pub prepared : Run s made first start
   pub at_start : IsAtStart start
   pub ran : Run start others later new
-  pub beside : AreInScope start.definitions others → (after : PointMachines)
-      × RunsBeside start.definitions start (machines_of start) others later new after
+  pub beside : AreInScope start others later → (after : PointMachines)
+      × RunsBeside start (machines_of start) others later new after
 
 -- a run agrees with the models of all points, however it is divided into pieces that create tables and later pieces
 abbrev pub AgreesAtPoints : State → List Piece → List Reply → State → Type 0

@@ -1,13 +1,14 @@
 -- The statements that the model of one point is given.
-use Rattle.std.specs.Prelude.{ℕ, Bool, List, [], ◌∷◌, map, filter, ℤ, pos, Option, Some, None, if◌then◌else◌}
+use Rattle.std.specs.Prelude.{ℕ, Bool, List, [], ◌∷◌, ◌++◌, map, filter, ℤ, pos, Option, Some, None, if◌then◌else◌}
 use Rattle.tql_spec.specs.Datum.{Datum, Null, Int, Row}
 use Rattle.tql_spec.specs.Period.{Period, holds}
 use Rattle.tql_spec.specs.Expression.{Expr, Literal, Cond, IsNull, eval}
 use Rattle.tql_spec.specs.Definition.{TableDef, table_at, period_of}
 use Rattle.tql_spec.specs.Creation.{has_number, period_columns}
 use Rattle.tql_spec.specs.Change.{Assignment, Work, new_row}
-use Rattle.tql_spec.specs.Machine.{Change, InsertTuples, InsertQuery, Modify, Bound, ChangeRows, changed_table}
-use Rattle.tql_points.specs.PointTable.{moved, renumbered, renumbered_cond}
+use Rattle.tql_spec.specs.Machine.{Change, InsertTuples, InsertQuery, Modify, Bound, CreateTable, ChangeRows}
+use Rattle.tql_spec.specs.Machine.{changed_table}
+use Rattle.tql_points.specs.PointTable.{moved, renumbered, renumbered_cond, point_table}
 
 -- ---- INSERT
 
@@ -68,7 +69,8 @@ change_at d p (InsertQuery t columns q) = InsertQuery t columns q
 change_at d p (Modify t portion work conds) =
     Modify t None (renumbered_work (moved d) work) (conds_at d p portion conds)
 
--- a statement; transactions, the clock and the horizon are left unchanged
+-- a statement; a new table is made as the table of the point, and all others are left unchanged
 abbrev pub statement_at : List TableDef → ℤ → Bound → Bound
+statement_at defs p (CreateTable d) = CreateTable (point_table (defs ++ d ∷ []) d)
 statement_at defs p (ChangeRows c) = ChangeRows (change_at (table_at defs (changed_table c)) p c)
 statement_at defs p b = b

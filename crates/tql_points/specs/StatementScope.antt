@@ -116,12 +116,18 @@ is_query (QueryTree s keys) = true
 is_query (ReadTree n s keys) = true
 is_query _ = false
 
+-- whether a statement creates or drops a table
+abbrev pub defines : Statement → Bool
+defines (CreateTree n e es versioned) = true
+defines (DropTree n) = true
+defines _ = false
+
 -- whether a statement is in scope: an INSERT of tuples with rising periods, or an UPDATE or a DELETE that names a
--- period only as its portion. Transaction statements, AT, PRUNE HISTORY, queries and the statements of readers are in
--- scope too.
+-- period only as its portion. So is a CREATE TABLE of the form above. DROP TABLE, transaction statements, AT, PRUNE
+-- HISTORY, queries and the statements of readers are in scope too.
 abbrev pub is_statement_in_scope : List TableDef → Statement → Bool
-is_statement_in_scope defs (CreateTree n e es versioned) = false
-is_statement_in_scope defs (DropTree n) = false
+is_statement_in_scope defs (CreateTree n e es versioned) = makes_point_table (CreateTree n e es versioned)
+is_statement_in_scope defs (DropTree n) = true
 is_statement_in_scope defs (InsertValues n names t ts) = of_table n (λ d. list_all (tuple_rises d names) (t ∷ ts)) defs
 is_statement_in_scope defs (InsertSelect n names s) = false
 is_statement_in_scope defs (UpdateTree n portion s ss c) = of_table n (change_avoids (s ∷ ss) c) defs

@@ -6,7 +6,7 @@ ghost use Rattle.tql_points.specs.ChangeLaw.{SlicesAreThere, InsertionsReduce, M
 ghost use Rattle.tql_points.specs.FaultLaw.{ModificationRefusals, InsertionRefusals};
 ghost use Rattle.tql_points.specs.PointMachine.{SnapshotsReduce};
 ghost use Rattle.tql_points.specs.RefusalLaw.{RefusalsReduce};
-ghost use Rattle.tql_points.specs.PointRun.{StartsAreKept, RunsAgreeAtPoints, RunsAgreeBehind};
+ghost use Rattle.tql_points.specs.PointRun.{StartsAreKept, ScopesAreKept, RunsAgreeAtPoints, RunsAgreeBehind};
 ghost use Rattle.tql_points.specs.RunLaw.{RunsReduce, RunRefusalsReduce};
 ghost use Rattle.tql_points.specs.ScopeLaw.{CreationsAreInScope, StatementsAreInScope};
 
@@ -55,7 +55,8 @@ pub fn written_in_scope()
     ensures statements { StatementsAreInScope }
 {}
 
-/// Every run of statements that create tables, followed by statements in scope, agrees with the models of all points.
+/// Every run over statements in scope agrees with the models of all points. The models may begin after the first tables
+/// are made (`starts`), and tables may be created and dropped later.
 /// If a statement is executed, each point executes it. A statement other than a query that is refused for its effect,
 /// and not for its text, names, kinds, forms, literals or memory, has the first refusal of the points. After each
 /// answer the slices, now, as of each moment and in what readers pinned, are the answers of the points. After earlier
@@ -64,4 +65,5 @@ pub fn runs_agree_at_points()
     ensures starts { StartsAreKept }
     ensures runs { RunsAgreeAtPoints }
     ensures behind { RunsAgreeBehind }
+    ensures scopes { ScopesAreKept }
 {}
