@@ -66,7 +66,7 @@ impl Listener for Lines {
         let _ = self.put(&complaint);
     }
 
-    fn answered(&mut self, _answer: &Answer, _pushed: &Pushed) {}
+    fn answered(&mut self, _line: u64, _answer: &Answer, _pushed: &Pushed) {}
 }
 
 /// The diagnostics of a run, its output, and the number of allocations that were granted and not made.

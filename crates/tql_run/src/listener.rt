@@ -31,7 +31,8 @@ pub trait Listener {
     )
         ensures { Hears (heard self.old) (note statement line (refusal_of refusal) ∷ []) (heard self.new) };
 
-    /// Reports an answer that is not a refusal to the listener. `pushed` says whether the sink took it.
-    fn answered(&mut self, answer: &Answer, pushed: &Pushed)
+    /// Reports an answer that is not a refusal to the listener, with the line of its statement, counted from 1.
+    /// `pushed` says whether the sink took it.
+    fn answered(&mut self, line: u64, answer: &Answer, pushed: &Pushed)
         ensures { Hears (heard self.old) [] (heard self.new) };
 }

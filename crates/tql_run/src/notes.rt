@@ -104,5 +104,5 @@ impl Listener for Notes {
         }
     }
 
-    fn answered(&mut self, _answer: &Answer, _pushed: &Pushed) {}
+    fn answered(&mut self, _line: u64, _answer: &Answer, _pushed: &Pushed) {}
 }

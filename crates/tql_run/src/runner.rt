@@ -145,7 +145,7 @@ fn report<L: Listener>(
     if let Answer::Replied(Reply::Refused(refusal)) = answer {
         listener.refused(statement, line, *refusal, detail, pushed);
     } else {
-        listener.answered(answer, pushed);
+        listener.answered(line, answer, pushed);
     }
 }
 

@@ -31,5 +31,5 @@ impl Listener for Silence {
         _pushed: &Pushed,
     ) {}
 
-    fn answered(&mut self, _answer: &Answer, _pushed: &Pushed) {}
+    fn answered(&mut self, _line: u64, _answer: &Answer, _pushed: &Pushed) {}
 }
