@@ -98,7 +98,10 @@ impl<E: Eprint> Listener for Complaints<'_, E> {
         }
     }
 
-    fn answered(&mut self, answer: &Answer, pushed: &Pushed) {
+    fn answered(&mut self, line: u64, answer: &Answer, pushed: &Pushed) {
+        if let Answer::Replied(Reply::Done(verb, _)) = answer {
+            self.progress.note(*verb, line);
+        }
         if !self.style.says_done() || pushed.outcome().is_err() {
             return;
         }

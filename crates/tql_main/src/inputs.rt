@@ -171,7 +171,8 @@ impl<'a> Run<'a> {
         let is_prompted = rt.stdout().is_terminal();
         invite(rt, is_prompted);
         if is_prompted {
-            self.answer_reader(responder, Prompted::new(rt, input))
+            let progress = self.progress;
+            self.answer_reader(responder, Prompted::new(rt, input, progress))
         } else {
             self.answer_reader(responder, input)
         }
@@ -231,7 +232,18 @@ fn answer_by<'a, R: Runner>(
             refused: 0,
         },
     };
-    run.answer_inputs(responder)
+    let summary = run.answer_inputs(responder);
+    if !job.quiet {
+        say_uncommitted(job.rt, progress);
+    }
+    summary
+}
+
+/// Reports that the program ends with a transaction open, if it does.
+fn say_uncommitted(rt: &impl Eprint, progress: &Progress<'_>) {
+    if let Some(uncommitted) = progress.uncommitted() {
+        let _ = eprintln!(rt; "tql: {uncommitted}");
+    }
 }
 
 /// Runs the inputs of a job, or checks them, within a bound of memory.

@@ -3,6 +3,7 @@ use crate::shown::Shown;
 use std::cell::Cell;
 use std::fmt;
 use tql_options::options::Input;
+use tql_result::reply::Verb;
 
 /// The name of the standard input.
 pub(crate) static STANDARD_INPUT: &str = "the standard input";
@@ -35,14 +36,41 @@ pub(crate) fn name_of(input: Input<'_>) -> &str {
     }
 }
 
-/// The progress of a run: the number of statements so far, and the input that is read. Whatever writes to the standard
-/// error shares it.
+/// Where a transaction was opened: the index of the input, and the line in it.
+#[derive(Clone, Copy)]
+struct Opening {
+    place: usize,
+    line: u64,
+}
+
+/// The line about a transaction that is open when the program ends.
+#[derive(Clone, Copy)]
+pub(crate) struct Uncommitted<'a> {
+    name: &'a str,
+    line: u64,
+}
+
+impl fmt::Display for Uncommitted<'_> {
+    fn fmt<W: fmt::Write>(&self, f: &mut fmt::Formatter<W>) -> fmt::Result {
+        let name = Shown(self.name);
+        let line = self.line;
+        write!(
+            f,
+            "the transaction opened on line {line} of {name} was not committed; its changes are lost"
+        )
+    }
+}
+
+/// The progress of a run: the number of statements so far, the input that is read, and the open transaction. Whatever
+/// writes to the standard error shares it.
 #[derive(Drop)]
 pub(crate) struct Progress<'a> {
     inputs: &'a [Input<'a>],
     /// The index of the input that is read.
     place: Cell<usize>,
     statements: Cell<u64>,
+    /// Where the open transaction was opened, if one is open.
+    opened: Cell<Option<Opening>>,
 }
 
 impl<'a> Progress<'a> {
@@ -52,6 +80,7 @@ impl<'a> Progress<'a> {
             inputs,
             place: Cell::new(0),
             statements: Cell::new(0),
+            opened: Cell::new(None),
         }
     }
 
@@ -68,6 +97,28 @@ impl<'a> Progress<'a> {
     /// Sets the number of statements so far.
     pub(crate) fn set_statements(&self, count: u64) {
         self.statements.set(count);
+    }
+
+    /// Records what a statement on a line of the present input has done to the transaction.
+    pub(crate) fn note(&self, verb: Verb, line: u64) {
+        match verb {
+            Verb::Started => {
+                let place = self.place.get();
+                self.opened.set(Some(Opening { place, line }));
+            }
+            Verb::Committed | Verb::RolledBack => self.opened.set(None),
+            _ => {}
+        }
+    }
+
+    /// Returns what is lost if the program ends now: the open transaction, if there is one.
+    pub(crate) fn uncommitted(&self) -> Option<Uncommitted<'a>> {
+        let opening = self.opened.get()?;
+        let input = self.inputs.get(opening.place)?;
+        Some(Uncommitted {
+            name: name_of(*input),
+            line: opening.line,
+        })
     }
 
     /// Returns the label of the input in a line: its name if there are several inputs, and otherwise nothing.

@@ -3,6 +3,7 @@ ghost use Rattle.std.specs.Prelude.{◌≡◌};
 ghost use Rattle.tql_spec.specs.Script as script;
 ghost use Rattle.tql_main.specs.Prompting.{begun_by, place_of};
 
+use crate::progress::Progress;
 use std::io::{self, Read};
 
 /// The text that `help` writes.
@@ -108,30 +109,41 @@ fn order_of(line: &[u8]) -> Option<Order> {
 
 /// A reader at a terminal. Before each read it writes a prompt to the standard error, for a statement or for more of
 /// one, and at the end of the input a line feed. It obeys commands that are typed where nothing has begun: `help` is
-/// answered on the standard error, and `quit` and `exit` end the input.
+/// answered on the standard error, and `quit` and `exit` end the input. While a transaction is open, the first of these
+/// says so and ends nothing.
 #[derive(Drop)]
 pub(crate) struct Prompted<'a, E: Eprint, R> {
     rt: &'a E,
     reader: R,
     typed: Typed,
+    progress: &'a Progress<'a>,
+    /// Whether the last command was `quit` and was not obeyed.
+    is_warned: bool,
 }
 
 impl<'a, E: Eprint, R: Read + Drop> Prompted<'a, E, R> {
     /// Returns a reader from which nothing was read yet.
-    pub(crate) fn new(rt: &'a E, reader: R) -> Prompted<'a, E, R> {
+    pub(crate) fn new(rt: &'a E, reader: R, progress: &'a Progress<'a>) -> Prompted<'a, E, R> {
         let typed = Typed {
             place: Place::Outside,
             is_begun: false,
         };
-        Prompted { rt, reader, typed }
+        Prompted {
+            rt,
+            reader,
+            typed,
+            progress,
+            is_warned: false,
+        }
     }
 
-    /// Writes the prompt.
+    /// Writes the prompt. In an open text or quoted name it begins with the quote that ends it.
     fn prompt(&self) {
-        let prompt = if self.typed.is_begun {
-            "...> "
-        } else {
-            "tql> "
+        let prompt = match self.typed.place {
+            Place::InText => "'...> ",
+            Place::InName => "\"...> ",
+            _ if self.typed.is_begun => "...> ",
+            _ => "tql> ",
         };
         let _ = eprint!(self.rt; "{prompt}");
     }
@@ -145,12 +157,25 @@ impl<'a, E: Eprint, R: Read + Drop> Prompted<'a, E, R> {
         }
     }
 
+    /// Whether `quit` ends the input. With a transaction open it says so the first time, and the next one ends it.
+    fn quits(&mut self) -> bool {
+        if self.is_warned || self.progress.uncommitted().is_none() {
+            return true;
+        }
+        self.is_warned = true;
+        let _ = eprintln!(self.rt;
+            "tql: a transaction is open: COMMIT keeps its changes; quit once more to leave without them"
+        );
+        false
+    }
+
     /// Records the bytes that were read of the script, and ends the last line at the end of the input.
     fn keep(&mut self, bytes: &[u8]) {
         if bytes.is_empty() {
             let _ = eprintln!(self.rt; "");
         }
         self.typed = typed_with(self.typed, bytes);
+        self.is_warned = false;
     }
 }
 
@@ -165,7 +190,11 @@ impl<E: Eprint, R: Read + Drop> Read for Prompted<'_, E, R> {
                     self.keep(bytes);
                     return Ok(count);
                 }
-                Some(Order::Quit) => return Ok(0),
+                Some(Order::Quit) => {
+                    if self.quits() {
+                        return Ok(0);
+                    }
+                }
                 Some(Order::Help) => {
                     let _ = eprintln!(self.rt; "{HELP}");
                 }
