@@ -5,7 +5,7 @@ Usage: tools/build.py        (make build)
 
 The crates are proved one after the other, each after those that it uses, with a line for each: `proved 22 of 50: tql_expr, 170 s`. What earlier
 checks proved of the same text is kept (`out/` of each crate) and not proved again; its line ends in `before`. Where a crate is not proved, what rt
-said of it is printed and the status is 1.
+said of it is printed and the status is 1. Where the kit has another logic than the one that README.md names, a line says so.
 """
 import shutil
 import signal
@@ -15,7 +15,7 @@ import time
 
 sys.dont_write_bytecode = True
 
-from quick import PROGRAM, TOP, crates_of, leave, run
+from quick import PROGRAM, TOP, crates_of, leave, run, warn_of_kit
 
 
 def prove(crate: str) -> str:
@@ -29,6 +29,7 @@ def prove(crate: str) -> str:
 def main() -> int:
     if not shutil.which("rt"):
         sys.exit("make build: there is no rt on the path; README.md names the kit")
+    warn_of_kit("make build")
     signal.signal(signal.SIGTERM, lambda number, _: sys.exit(128 + number))
     started, crates = time.time(), crates_of(PROGRAM)
     print(f"make build: proving {len(crates)} crates", flush=True)
