@@ -17,7 +17,7 @@ To prove and test:
   make test         runs the gate: make lint, the command lines of the program, every proof and every test, from nothing; says what it cost
   make edits        tries the must-fail edits, which the prover must refuse: all, or CRATE=name, or EDIT=name too
   make lines        tries the command lines of the program, in a minute or two and without a proof
-  make lint         checks code, documents and what each crate costs the gate, in seconds
+  make lint         checks code, documents, their numbers and what each crate costs the gate, in seconds
   make map          prints what each crate is, by area; with CRATE=name what the modules of one are
   make words        counts the words of the documents, by page
 To measure and to try at length:
@@ -55,7 +55,7 @@ lines:
 	@tools/lines.py
 
 lint:
-	@status=0; for it in earned cost documents; do tools/$$it.py || status=1; done; exit $$status
+	@status=0; for it in earned cost documents counts; do tools/$$it.py || status=1; done; exit $$status
 
 map:
 	@tools/map.py $(CRATE)
