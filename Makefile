@@ -15,6 +15,7 @@ To use the program:
   make install      installs ./tql (or TQL=path), its manual page, two documents and the licences below PREFIX=/usr/local
 To prove and test:
   make test         runs the gate: make lint, the command lines of the program, every proof and every test, from nothing; says what it cost
+                    PLAIN=1 runs rt ci as the kit has it (see tools/gate.py), which takes hours with some kits
   make edits        tries the must-fail edits, which the prover must refuse: all, or CRATE=name, or EDIT=name too
   make lines        tries the command lines of the program, in a minute or two and without a proof
   make lint         checks code, documents, their numbers and what each crate costs the gate, in seconds
@@ -46,7 +47,7 @@ install:
 	install -D -m 644 -t "$(DESTDIR)$(PREFIX)/share/doc/tql" LICENSE-APACHE LICENSE-MIT docs/LANGUAGE.md docs/QUESTIONS.md
 
 test: lint lines
-	@tools/gate.py
+	@tools/gate.py $(if $(PLAIN),--plain)
 
 edits:
 	@tools/edits.py "$(CRATE)" "$(EDIT)"

@@ -1,7 +1,7 @@
 #!/usr/bin/env python3
 """Runs the gate, rt ci, and says before its last line what it cost: processor seconds of each crate and task, and their sum.
 
-Usage: tools/gate.py        (a part of make test)
+Usage: tools/gate.py [--plain]        (a part of make test; make test PLAIN=1)
 
 What rt ci prints is passed on as it comes. Without RT_JOBS in the environment it gets as many lanes as there are processors, or as fit into the memory
 that is free: a check that is given more processors than one ends sooner, but takes a fifth more of their time. Every SECONDS its checks are looked up
@@ -11,7 +11,9 @@ Shared processors are slower, so a fixed loop is timed too: 'by pace' is the sum
 status is that of rt ci.
 
 Some kits look up the libraries below a crate, and sum up their sources, again for each path that crates.txt has to a library. This repository has half
-a million of these paths, at an estimated 10 ms each. Neither changes while rt ci runs, so each crate's answer is remembered (see REMEMBERED).
+a million of these paths, at an estimated 10 ms each. Neither changes while rt ci runs, so each crate's answer is remembered (see REMEMBERED): the
+kit's rt is loaded here, two of its methods are replaced by ones that remember, and its 'ci' is called. With --plain the kit's own command rt ci is
+run as it is, which takes hours with such a kit.
 """
 import functools
 import importlib.machinery
@@ -127,15 +129,17 @@ def ci() -> int:
     return rt.main(["ci"])
 
 
-def main() -> int:
-    if sys.argv[1:] == ["--ci"]:
+def main(words: "list[str]") -> int:
+    if words == ["--ci"]:
         return ci()
+    if words not in ([], ["--plain"]):
+        sys.exit(__doc__)
     meter = Meter()
     meter.start()
     # The last line is held back, so that it stays the last.
     last = ""
     how = {"env": {"RT_JOBS": str(lanes()), **os.environ}, "stdout": subprocess.PIPE, "text": True, "errors": "replace"}
-    with subprocess.Popen([sys.executable, __file__, "--ci"], **how) as ran:
+    with subprocess.Popen(["rt", "ci"] if words else [sys.executable, __file__, "--ci"], **how) as ran:
         for line in ran.stdout:
             print(last, end="", flush=True)
             last = line
@@ -147,4 +151,4 @@ def main() -> int:
 
 
 if __name__ == "__main__":
-    sys.exit(main())
+    sys.exit(main(sys.argv[1:]))
