@@ -25,6 +25,7 @@ use clap::Error;
 use std::env;
 use std::io::{self, ErrorKind, IsTerminal};
 use std::process::ExitCode;
+use tql_options::joining::joined_words;
 use tql_options::options::{CommandLine, Format, command_line};
 use tql_run::runner::Fault;
 
@@ -116,10 +117,11 @@ fn end_line(rt: &HostRuntime, words: &[String], error: &Error) -> u8 {
     }
 }
 
-/// Returns the words of the command line, of which the first is the program's name.
+/// Returns the words of the command line, of which the first is the program's name, each option joined to its value.
 fn words(rt: &HostRuntime) -> io::Result<Vec<String>> {
-    let words = env::args(rt)?.collect(rt.alloc())?;
-    Ok(words)
+    let words: Vec<String> = env::args(rt)?.collect(rt.alloc())?;
+    let joined = joined_words(rt.alloc(), &words)?;
+    Ok(joined)
 }
 
 /// Reports that the words cannot be read, because memory ran out or a word is not UTF-8, and returns the exit status.

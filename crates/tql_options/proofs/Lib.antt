@@ -1,2 +1,3 @@
+mod JoinLemmas
 mod LineLemmas
 mod SizeLemmas

@@ -1,3 +1,4 @@
 pub mod CommandLine
 pub mod Described
+pub mod Joining
 pub mod Sizes

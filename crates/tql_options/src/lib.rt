@@ -1,5 +1,6 @@
 //! The command line of the program: which options, texts and scripts its words say.
 #![tactic(auto)]
 
+pub mod joining;
 pub mod options;
 pub mod sizes;

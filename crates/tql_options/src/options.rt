@@ -10,9 +10,9 @@ use crate::sizes::bytes_of;
 use clap::{Arg, ArgAction, ArgMatches, Command, Error};
 use std::alloc::{AllocError, Global};
 
-/// The program's version, and the kit that its proofs are for (`rt version`).
+/// The program's version, and the logic of the kits that its proofs are for (`rt version`).
 static VERSION: &str =
-    "0.1.0 (for rattle-kit-13f logic dac8208d650f15bf; verified if built by `make build`, not if by `make quick`)";
+    "0.1.0 (for Rattle kits with logic dac8208d650f15bf; verified if built by `make build`, not if by `make quick`)";
 
 /// What help says below the arguments.
 static NOTES: &str =
