@@ -6,7 +6,7 @@
 //!
 //! One rule holds for every hint: none replaces a statement that keeps all rows by one that changes or deletes rows. If
 //! nothing here does the same, the hint says what is missing. If the advice reaches further, the hint says so.
-use crate::matching::fits;
+use crate::matching::{end_with, fits, is_near, is_plain};
 use tql_lex::token::Token;
 
 /// A habit: the tokens before the place where reading stopped, the beginning of the text from there on, and the hint.
@@ -14,24 +14,41 @@ use tql_lex::token::Token;
 /// The tokens before the place are words and symbols in upper case, separated by single blanks; the last one is next to
 /// the place. `^` is the beginning of the statement, `_` any name, `#` any number, `'` any text in quotes. A token in
 /// front of `..` may be anywhere before the others. The text from the place on begins with tokens, a name `_`, or
-/// characters with which no token begins. If one of the two is empty, anything fits.
+/// characters with which no token begins; there `^` is the end of the statement. If one of the two is empty, anything
+/// fits.
 struct Hint(&'static str, &'static str, &'static str);
 
 const ALL_MOMENTS: &str = "write BETWEEN, with the first and the last moment";
 
 const ALL_ROWS: &str = "all rows are printed: there is no limit";
 
+const A_COMMA: &str = "write a comma in place of AND";
+
 const AT_ONCE: &str = "leave it out: each statement is checked at once";
+
+const BETWEEN_AND: &str = "write AND in place of TO: BETWEEN includes both ends";
+
+const BOUNDS: &str = "AND and the upper bound are missing";
 
 const CENTS: &str = "write BIGINT, in the smallest unit: whole cents";
 
 const FOREIGN: &str = "write FOREIGN KEY (x) REFERENCES t (x)";
 
+const FROM_TO: &str = "write FROM .. TO .., without the second point";
+
 const FROM_SELECT: &str = "write CREATE TABLE, then INSERT from SELECT";
 
 const INSERT_MISSING: &str = "write UPDATE, then INSERT what is missing";
 
+const IN_LIST: &str = "write the values in parentheses";
+
+const IN_PERIOD: &str = "for a period write its name first, then CONTAINS";
+
 const IN_KEY: &str = "write a key, as UNIQUE (x), in CREATE TABLE";
+
+const LAST_COMMA: &str = "leave the last comma out";
+
+const LISTED: &str = "write the columns in parentheses";
 
 const LEAVE: &str = "press Ctrl-D to leave";
 
@@ -53,9 +70,13 @@ const NO_BOOLEAN: &str = "write INTEGER, with 0 and 1";
 
 const NO_CASE: &str = "there is no CASE: choose in your program";
 
+const NO_CLOCK: &str = "there is no clock to read: write DATE '..' or TIMESTAMP '..'";
+
 const NO_INDEX: &str = "leave it out: keys and references are indexed";
 
 const NO_JOINED_TEXT: &str = "there is no operator for texts: join them in your program";
+
+const NO_LENGTH: &str = "leave the length out";
 
 const NO_LIMIT: &str = "there is no LIMIT: choose the rows by WHERE";
 
@@ -65,6 +86,8 @@ const NO_PARTITIONS: &str = "leave it out: there are no partitions";
 
 const NO_PATTERN: &str = "there is no pattern match: filter in your program";
 
+const NO_POINT: &str = "a point is no period: write CONTAINS";
+
 const NO_PORTION: &str = "write WHERE, and that the period CONTAINS the day";
 
 const NO_PREPARED: &str = "there are no prepared statements";
@@ -72,6 +95,8 @@ const NO_PREPARED: &str = "there are no prepared statements";
 const NO_QUOTIENT: &str = "there is no division: divide in your program";
 
 const NO_SUBQUERY: &str = "write a join, or several queries";
+
+const NO_USERS: &str = "there are no users";
 
 const NO_VARIABLE: &str = "there are no variables: write the value";
 
@@ -83,6 +108,8 @@ const NULL_APART: &str = "write OR x IS NULL";
 
 const NUMBERS: &str = "write the number in each INSERT";
 
+const ON_MISSING: &str = "ON and a condition are missing";
+
 const ONLY_ROW: &str = "only ROW START and ROW END are generated";
 
 const ONLY_SQL: &str = "only SQL statements are read here";
@@ -91,11 +118,15 @@ const ORDERED: &str = "write columns by name; ORDER BY also takes a position";
 
 const OWN_TABLE: &str = "UPDATE reads its own table only";
 
+const PERIOD_BEFORE: &str = "write PERIOD before the parenthesis";
+
 const POINT: &str = "write DATE '..' or TIMESTAMP '..'";
 
 const PRIMARY: &str = "write it after a comma: PRIMARY KEY (x)";
 
 const PRUNING: &str = "write PRUNE HISTORY BEFORE TIMESTAMP '..', for all tables";
+
+const ROW_LISTED: &str = "write each row in parentheses";
 
 const ROW_END: &str = "write GENERATED ALWAYS AS ROW END";
 
@@ -105,6 +136,8 @@ const SHOWN: &str = "leave it out: every column is shown";
 
 const SPAN_FIRST: &str = "write it before the table's other name";
 
+const STRAIGHT: &str = "write straight quotes: 'text'";
+
 const SYSTEM: &str = "write PERIOD FOR SYSTEM_TIME (s, e)";
 
 const TWO_QUERIES: &str =
@@ -112,14 +145,18 @@ const TWO_QUERIES: &str =
 
 const TYPES: &str = "the types are INTEGER, VARCHAR(n), DATE and TIMESTAMP";
 
+const UNLISTED: &str = "leave the parentheses out";
+
 const UNORDERED: &str = "leave ORDER BY out: it has no effect here";
+
+const VALUES_MISSING: &str = "VALUES is missing before the parenthesis";
 
 const WHOLE: &str = "only the whole transaction can be rolled back";
 
 const WRITE_COLUMNS: &str = "write the columns";
 
 /// The habits of whole statements.
-static STATEMENTS: [Hint; 56] = [
+static STATEMENTS: [Hint; 85] = [
     // The beginning of a statement.
     Hint("^", "\u{feff}", "remove the byte order mark"),
     Hint("^", "BEGIN", "write START TRANSACTION"),
@@ -150,6 +187,17 @@ static STATEMENTS: [Hint; 56] = [
     Hint("^", "MERGE", "write UPDATE and INSERT in one transaction"),
     Hint("^", "REPLACE", "write DELETE and INSERT in one transaction"),
     Hint("^", "WITH", NO_SUBQUERY),
+    Hint(
+        "^",
+        "PRAGMA",
+        "there are no settings, and no list of columns",
+    ),
+    Hint("^", "VALUES", "VALUES is a part of INSERT only"),
+    Hint("^", "GRANT", NO_USERS),
+    Hint("^", "REVOKE", NO_USERS),
+    Hint("^ OPEN", "_", "write OPEN READER and a name"),
+    Hint("^ CLOSE", "_", "write CLOSE READER and a name"),
+    Hint("^ READ _", "", "write a query after the name of the reader"),
     Hint("^ AT", "", MOMENT),
     Hint("^ PRUNE HISTORY BEFORE", "", MOMENT),
     Hint("^ PRUNE", "", PRUNING),
@@ -165,11 +213,41 @@ static STATEMENTS: [Hint; 56] = [
     Hint("^ DELETE FROM _", "AS", NO_ALIAS),
     Hint("^ DELETE FROM _", "_", NO_ALIAS),
     Hint("^ UPDATE _", "AS", NO_ALIAS),
+    Hint("^ UPDATE", "SET", "the table is missing before SET"),
+    Hint("^ UPDATE _", "_ =", "SET is missing before the column"),
     Hint("^ UPDATE _", "_", NO_ALIAS),
     Hint("^ UPDATE _", "JOIN", OWN_TABLE),
+    Hint("FOR PORTION", "", "write FOR PORTION OF, then the period"),
+    Hint("PORTION OF _", "BETWEEN", FROM_TO),
+    Hint("PORTION OF _", "(", FROM_TO),
+    Hint(
+        "UPDATE ..",
+        "FOR PORTION",
+        "write FOR PORTION OF before SET",
+    ),
+    Hint(
+        "DELETE ..",
+        "FOR PORTION",
+        "write FOR PORTION OF before WHERE",
+    ),
+    Hint("SET", "(", "write SET x = .., one column at a time"),
+    Hint("SET _ = '", "AND", A_COMMA),
+    Hint("SET _ = #", "AND", A_COMMA),
+    Hint("SET _ = _", "AND", A_COMMA),
     Hint("UPDATE ..", "FROM", OWN_TABLE),
     Hint("^ INSERT", "", "write INSERT INTO"),
     Hint("^ INSERT INTO _", "SET", "write the columns, then VALUES"),
+    Hint("^ INSERT INTO _ (", "SELECT", UNLISTED),
+    Hint("^ INSERT INTO _ (", "#", VALUES_MISSING),
+    Hint("^ INSERT INTO _ (", "'", VALUES_MISSING),
+    Hint("INSERT .. )", "( SELECT", UNLISTED),
+    Hint("VALUES .. )", "(", "a comma is missing between the rows"),
+    Hint("INSERT .. )", "(", VALUES_MISSING),
+    Hint("VALUES", "#", ROW_LISTED),
+    Hint("VALUES", "'", ROW_LISTED),
+    Hint("VALUES", "_", ROW_LISTED),
+    Hint("VALUES ..", "PERIOD", "write the two ends, as two values"),
+    Hint("VALUES .. ) ,", "^", LAST_COMMA),
     Hint("INSERT ..", "ON DUPLICATE", INSERT_MISSING),
     Hint("INSERT ..", "ON CONFLICT", MISSING_KEYS),
     Hint("INSERT ..", "ORDER", UNORDERED),
@@ -181,7 +259,7 @@ static STATEMENTS: [Hint; 56] = [
 ];
 
 /// The habits of CREATE TABLE and its columns.
-static TABLES: [Hint; 48] = [
+static TABLES: [Hint; 52] = [
     // CREATE.
     Hint("^ CREATE", "OR REPLACE VIEW", NO_VIEW),
     Hint("^ CREATE", "OR", "leave OR REPLACE out"),
@@ -193,6 +271,7 @@ static TABLES: [Hint; 48] = [
     Hint("^ CREATE", "TEMP", NOTHING_OUTLASTS),
     Hint("^ CREATE TABLE _", "LIKE", WRITE_COLUMNS),
     Hint("CREATE .. (", "LIKE", WRITE_COLUMNS),
+    Hint("CHECK ..", "SELECT", "a CHECK reads its own row only"),
     Hint("CREATE .. (", "SELECT", WRITE_COLUMNS),
     Hint("^ CREATE TABLE _", "AS", FROM_SELECT),
     Hint("CREATE .. )", "AS SELECT", FROM_SELECT),
@@ -207,6 +286,9 @@ static TABLES: [Hint; 48] = [
     Hint("CREATE ..", "INVISIBLE", SHOWN),
     Hint("CREATE ..", "HIDDEN", SHOWN),
     Hint("CREATE ..", "IMPLICITLY", SHOWN),
+    Hint("CREATE .. INT", "(", NO_LENGTH),
+    Hint("CREATE .. INTEGER", "(", NO_LENGTH),
+    Hint("CREATE .. BIGINT", "(", NO_LENGTH),
     Hint("CREATE ..", "TEXT", LENGTH),
     Hint("CREATE ..", "CHAR", LENGTH),
     Hint("CREATE ..", "CHARACTER", LENGTH),
@@ -235,7 +317,7 @@ static TABLES: [Hint; 48] = [
 ];
 
 /// The habits of keys, references, checks, periods and moments.
-static ELEMENTS: [Hint; 43] = [
+static ELEMENTS: [Hint; 51] = [
     // Keys, references, checks and periods.
     Hint("ON DELETE", "", NO_ACTION),
     Hint("ON UPDATE", "", NO_ACTION),
@@ -247,6 +329,14 @@ static ELEMENTS: [Hint; 43] = [
     Hint("CREATE ..", "PRIMARY", PRIMARY),
     Hint("UNIQUE", "KEY", "write UNIQUE (x)"),
     Hint("UNIQUE", "INDEX", "write UNIQUE (x)"),
+    Hint("UNIQUE", "_", LISTED),
+    Hint("PRIMARY KEY", "_", LISTED),
+    Hint("FOREIGN KEY", "_", LISTED),
+    Hint(
+        "( _",
+        "WITHOUT",
+        "write a column before the period: (x, p WITHOUT OVERLAPS)",
+    ),
     Hint("CREATE ..", "UNIQUE", "write it after a comma: UNIQUE (x)"),
     Hint("CREATE ..", "CHECK", "write it after a comma: CHECK (..)"),
     Hint("CREATE ..", "INDEX", NO_INDEX),
@@ -274,6 +364,14 @@ static ELEMENTS: [Hint; 43] = [
     Hint("PORTION OF _ FROM DATE ' TO", "", POINT),
     Hint("PORTION OF _ FROM TIMESTAMP ' TO", "", POINT),
     Hint("SELECT .. _", "FOR SYSTEM_TIME", SPAN_FIRST),
+    Hint("FOR", "SYSTEM TIME", "write SYSTEM_TIME, in one word"),
+    Hint(
+        "SYSTEM_TIME",
+        "AS",
+        "write FOR SYSTEM_TIME AS OF after the table",
+    ),
+    Hint("WHERE ..", "AS OF", "write CONTAINS in place of AS OF"),
+    Hint("AS OF", "", "write FOR SYSTEM_TIME AS OF TIMESTAMP '..'"),
     Hint("FOR", "UPDATE", "leave FOR UPDATE out"),
     Hint("SELECT .. FOR", "_", NO_PORTION),
     Hint("DATE", "#", "write DATE 'YYYY-MM-DD'"),
@@ -284,12 +382,18 @@ static ELEMENTS: [Hint; 43] = [
 ];
 
 /// The habits of queries, expressions and conditions.
-static QUERIES: [Hint; 54] = [
+static QUERIES: [Hint; 64] = [
     // Queries.
     Hint("", "LIMIT", ALL_ROWS),
     Hint("", "OFFSET", ALL_ROWS),
     Hint("", "FETCH", ALL_ROWS),
     Hint("TOP", "", ALL_ROWS),
+    Hint(
+        "DISTINCT",
+        "ON",
+        "there is no DISTINCT ON: write MIN or MAX, with GROUP BY",
+    ),
+    Hint("COUNT (", ")", "write COUNT(*)"),
     Hint("(", "DISTINCT", "write SELECT DISTINCT, and count its rows"),
     Hint("(", "SELECT", NO_SUBQUERY),
     Hint("FROM", "(", NO_SUBQUERY),
@@ -304,14 +408,20 @@ static QUERIES: [Hint; 54] = [
     Hint("SELECT ..", "USING", "write ON, and the columns"),
     Hint("", "FULL", TWO_QUERIES),
     Hint("", "RIGHT", "write LEFT JOIN, with the tables swapped"),
+    Hint("ORDER", "", "BY is missing after ORDER"),
+    Hint("GROUP", "", "BY is missing after GROUP"),
     Hint("BY ..", "NULLS", "NULL sorts first, with DESC last"),
     Hint("ORDER BY _", ".", "write the column's heading alone"),
     Hint("BY", "", ORDERED),
     Hint("BY ..", "+", ORDERED),
     Hint("BY ..", "-", ORDERED),
     Hint("", "OVER", "there are no window functions"),
-    Hint(",", "FROM", "leave the last comma out"),
-    Hint(",", ")", "leave the last comma out"),
+    Hint(",", "JOIN", LAST_COMMA),
+    Hint(",", "LEFT", LAST_COMMA),
+    Hint(",", "INNER", LAST_COMMA),
+    Hint(",", "CROSS", LAST_COMMA),
+    Hint(",", "FROM", LAST_COMMA),
+    Hint(",", ")", LAST_COMMA),
     // Expressions and conditions.
     Hint("=", "NULL", "write IS NULL"),
     Hint("<>", "NULL", "write IS NOT NULL"),
@@ -329,6 +439,8 @@ static QUERIES: [Hint; 54] = [
     Hint("", "%", NO_QUOTIENT),
     Hint("", "!=", "write <>"),
     Hint("=", "=", "write = once"),
+    Hint("=", ">", "write >="),
+    Hint("=", "<", "write <="),
     Hint("", "||", NO_JOINED_TEXT),
     Hint("", "&&", "write OVERLAPS for periods, AND for conditions"),
     Hint("", "@>", "write CONTAINS"),
@@ -341,6 +453,90 @@ static QUERIES: [Hint; 54] = [
     Hint("", "$", NO_VARIABLE),
     Hint("", ":", NO_VARIABLE),
     Hint("NATURAL ..", "", "write JOIN, and ON with the columns"),
+];
+
+/// Slips in queries, expressions and conditions: what is missing, and what was probably meant.
+static SLIPS: [Hint; 55] = [
+    // Periods and moments.
+    Hint("=", "PERIOD", "write EQUALS in place of ="),
+    Hint("<>", "PERIOD", "write NOT before it, and EQUALS"),
+    Hint("OVERLAPS", "(", PERIOD_BEFORE),
+    Hint("EQUALS", "(", PERIOD_BEFORE),
+    Hint("PRECEDES", "(", PERIOD_BEFORE),
+    Hint("SUCCEEDS", "(", PERIOD_BEFORE),
+    Hint("OVERLAPS", "DATE", NO_POINT),
+    Hint("OVERLAPS", "TIMESTAMP", NO_POINT),
+    Hint("EQUALS", "DATE", NO_POINT),
+    Hint("EQUALS", "TIMESTAMP", NO_POINT),
+    Hint("DATE ' IN", "_", IN_PERIOD),
+    Hint("TIMESTAMP ' IN", "_", IN_PERIOD),
+    Hint("_ IN", "_", IN_LIST),
+    Hint("IN", "'", IN_LIST),
+    Hint("IN", "#", IN_LIST),
+    Hint("BETWEEN DATE '", "TO", BETWEEN_AND),
+    Hint("BETWEEN TIMESTAMP '", "TO", BETWEEN_AND),
+    Hint("BETWEEN #", "TO", BETWEEN_AND),
+    Hint("", "NOW (", NO_CLOCK),
+    Hint("", "CURRENT_DATE", NO_CLOCK),
+    Hint("", "CURRENT_TIMESTAMP", NO_CLOCK),
+    // Signs.
+    Hint("", "\u{2018}", STRAIGHT),
+    Hint("", "\u{2019}", STRAIGHT),
+    Hint("", "\u{201c}", STRAIGHT),
+    Hint("", "\u{201d}", STRAIGHT),
+    Hint("#", ", #", "write the number without a comma"),
+    Hint("SELECT .. _ _", ".", "is a comma missing before the name?"),
+    // The end of a statement, and ON.
+    Hint("BETWEEN # AND", "^", "the upper bound is missing"),
+    Hint("BETWEEN _ AND", "^", "the upper bound is missing"),
+    Hint("BETWEEN DATE ' AND", "^", "the upper bound is missing"),
+    Hint("BETWEEN TIMESTAMP ' AND", "^", "the upper bound is missing"),
+    Hint("AND", "^", "a condition is missing after AND"),
+    Hint("OR", "^", "a condition is missing after OR"),
+    Hint("WHERE", "^", "a condition is missing after WHERE"),
+    Hint("NOT", "^", "a condition is missing after NOT"),
+    Hint("HAVING", "^", "a condition is missing after HAVING"),
+    Hint("ON", "^", "a condition is missing after ON"),
+    Hint("IS", "^", "NULL is missing"),
+    Hint("IS NOT", "^", "NULL is missing"),
+    Hint("BETWEEN #", "^", BOUNDS),
+    Hint("BETWEEN DATE '", "^", BOUNDS),
+    Hint("BETWEEN TIMESTAMP '", "^", BOUNDS),
+    Hint("DATE ' BETWEEN _", "^", IN_PERIOD),
+    Hint("TIMESTAMP ' BETWEEN _", "^", IN_PERIOD),
+    Hint("BETWEEN _", "^", BOUNDS),
+    Hint("WHERE _", "^", "a comparison is missing"),
+    Hint("OR _", "^", "a comparison is missing"),
+    Hint("OR #", "^", "write the column and the sign again"),
+    Hint("OR '", "^", "write the column and the sign again"),
+    Hint("JOIN _", "^", ON_MISSING),
+    Hint("JOIN _", "WHERE", ON_MISSING),
+    Hint("JOIN _ _", "^", ON_MISSING),
+    Hint("JOIN _ _", "WHERE", ON_MISSING),
+    Hint("JOIN _ AS _", "^", ON_MISSING),
+    Hint("JOIN _ AS _", "WHERE", ON_MISSING),
+];
+
+/// Keywords, each with the tokens before it and the question for a word that is nearly the same.
+static KEYWORDS: [Hint; 18] = [
+    Hint("^", "SELECT", "did you mean SELECT?"),
+    Hint("^", "INSERT", "did you mean INSERT?"),
+    Hint("^", "UPDATE", "did you mean UPDATE?"),
+    Hint("^", "DELETE", "did you mean DELETE?"),
+    Hint("^", "CREATE", "did you mean CREATE?"),
+    Hint("^", "COMMIT", "did you mean COMMIT?"),
+    Hint("^", "ROLLBACK", "did you mean ROLLBACK?"),
+    Hint("^ CREATE", "TABLE", "did you mean TABLE?"),
+    Hint("^ DROP", "TABLE", "did you mean TABLE?"),
+    Hint("INSERT ..", "VALUES", "did you mean VALUES?"),
+    Hint("SELECT ..", "FROM", "did you mean FROM?"),
+    Hint("FROM ..", "JOIN", "did you mean JOIN?"),
+    Hint("FROM ..", "WHERE", "did you mean WHERE?"),
+    Hint("SET ..", "WHERE", "did you mean WHERE?"),
+    Hint("FROM ..", "GROUP", "did you mean GROUP?"),
+    Hint("FROM ..", "ORDER", "did you mean ORDER?"),
+    Hint("FROM ..", "HAVING", "did you mean HAVING?"),
+    Hint("", "TIMESTAMP", "did you mean TIMESTAMP?"),
 ];
 
 /// Returns the hint of the first of these habits that fits.
@@ -374,5 +570,25 @@ pub(crate) fn habit_hint(
     if let Some(says) = first_hint(&ELEMENTS, before, behind, rest) {
         return Some(says);
     }
-    first_hint(&QUERIES, before, behind, rest)
+    if let Some(says) = first_hint(&QUERIES, before, behind, rest) {
+        return Some(says);
+    }
+    first_hint(&SLIPS, before, behind, rest)
+}
+
+/// Returns the question for the keyword that was probably meant by the first word of `behind`, if it is nearly one that
+/// these tokens may precede.
+pub(crate) fn keyword_hint(before: &[Token<'_>], behind: &[Token<'_>]) -> Option<&'static str> {
+    let [word, ..] = behind else {
+        return None;
+    };
+    if !is_plain(word) {
+        return None;
+    }
+    for hint in &KEYWORDS {
+        if end_with(before, hint.0) && is_near(word.text, hint.1) {
+            return Some(hint.2);
+        }
+    }
+    None
 }

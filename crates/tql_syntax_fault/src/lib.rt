@@ -4,5 +4,6 @@
 mod hints;
 mod matching;
 mod places;
+mod slips;
 pub mod told;
 pub mod unfinished;

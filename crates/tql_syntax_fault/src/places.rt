@@ -1,10 +1,10 @@
 //! The token of a refused text that is shown: usually the one at which reading stopped, or the one before it.
-use crate::matching::{is_name, is_plain};
+use crate::matching::{is_name, is_near, is_plain};
 use tql_lex::token::{Symbol, Token, TokenKind};
 use tql_syntax::stop::Stopped;
 
 /// Whether an operand may end with this token.
-fn ends_operand(token: &Token<'_>) -> bool {
+pub(crate) fn ends_operand(token: &Token<'_>) -> bool {
     match token.kind {
         TokenKind::Word => !token.is_reserved() && !token.is_word("OF"),
         TokenKind::QuotedName | TokenKind::Number | TokenKind::Quote => true,
@@ -22,7 +22,7 @@ fn begins_operand(token: &Token<'_>) -> bool {
 }
 
 /// Whether a token is one of these words.
-fn is_one_of(token: &Token<'_>, words: &str) -> bool {
+pub(crate) fn is_one_of(token: &Token<'_>, words: &str) -> bool {
     for word in words.split(' ') {
         if token.is_word(word) {
             return true;
@@ -38,12 +38,12 @@ const OTHER_TYPES: &str =
     "SMALLINT TINYINT TEXT CHAR CHARACTER DECIMAL NUMERIC FLOAT REAL DOUBLE BOOLEAN BOOL DATETIME SERIAL";
 
 /// Whether a token is a type, here or in other systems.
-fn is_type(token: &Token<'_>) -> bool {
+pub(crate) fn is_type(token: &Token<'_>) -> bool {
     is_one_of(token, TYPES) || is_one_of(token, OTHER_TYPES)
 }
 
 /// The reserved words with which literals begin.
-const LITERALS: &str = "DATE TIMESTAMP";
+pub(crate) const LITERALS: &str = "DATE TIMESTAMP";
 
 /// The reserved words with which aggregates begin.
 const AGGREGATES: &str = "COUNT SUM MIN MAX";
@@ -52,7 +52,7 @@ const AGGREGATES: &str = "COUNT SUM MIN MAX";
 const ELEMENTS: &str = "INDEX KEY LIKE FULLTEXT SPATIAL";
 
 /// Whether these are the tokens of a CREATE statement.
-fn are_create(tokens: &[Token<'_>]) -> bool {
+pub(crate) fn are_create(tokens: &[Token<'_>]) -> bool {
     tokens.first().is_some_and(|first| first.is_word("CREATE"))
 }
 
@@ -119,15 +119,22 @@ fn is_element(before: &[Token<'_>], behind: &[Token<'_>]) -> bool {
     }
 }
 
-/// Whether a word before a `(` was read as a name, or a word between two operands as an alias of the first.
+/// Whether a word before a text was probably meant as TIMESTAMP.
+fn is_literal_meant(word: &Token<'_>, next: &Token<'_>) -> bool {
+    matches!(next.kind, TokenKind::Quote) && is_plain(word) && is_near(word.text, "TIMESTAMP")
+}
+
+/// Whether a word before a `(` was read as a name, or a word between two operands as an alias of the first. BY is like
+/// the second operand.
 fn is_alias(last: &Token<'_>, behind: &[Token<'_>]) -> bool {
     match behind {
-        [word, open, ..] if is_plain(word) && open.is_sign(Symbol::Open) => true,
+        [word, next, ..] if is_literal_meant(word, next) => true,
+        [word, open, ..] if is_plain(word) && open.is_sign(Symbol::Open) => !last.is_word("OF"),
         [word, next, ..] => {
             ends_operand(last)
                 && is_plain(word)
                 && !is_one_of(word, "ASC DESC")
-                && begins_operand(next)
+                && (begins_operand(next) || next.is_word("BY"))
         }
         _ => false,
     }

@@ -1,12 +1,13 @@
 //! Messages for the place where reading a text stopped.
-use crate::hints::habit_hint;
+use crate::hints::{habit_hint, keyword_hint};
 use crate::matching::is_plain;
-use crate::places::{is_name_meant, shown_place};
+use crate::places::{LITERALS, is_name_meant, is_one_of, shown_place};
+use crate::slips::slip_hint;
 use std::alloc::AllocError;
 use tql_detail::detail::Detail;
 use tql_detail::place::Place;
 use tql_detail::shown::{Words, push_shown};
-use tql_lex::token::{Symbol, Token};
+use tql_lex::token::{Symbol, Token, TokenKind};
 use tql_memory::Memory;
 use tql_syntax::stop::{Stopped, depth_stop_of, stop_of};
 
@@ -16,6 +17,8 @@ const DEEP: &str = "at most 64 parentheses may be open at once";
 const QUOTED: &str = "write it in double quotes";
 
 const FUNCTIONS: &str = "the only functions are COUNT, SUM, MIN and MAX";
+
+const NO_CALL: &str = "write DATE '..' or TIMESTAMP '..', without parentheses";
 
 const NO_TABLE: &str = "FROM and a table are missing";
 
@@ -47,11 +50,36 @@ fn begins_call(before: &[Token<'_>], behind: &[Token<'_>]) -> bool {
     is_call && in_change
 }
 
+/// Words after which a table's name is written.
+const BEFORE_TABLES: &str = "TABLE INTO FROM JOIN UPDATE REFERENCES";
+
+/// Returns what to write for a reserved word where a name was meant, or for DATE or TIMESTAMP written as a function.
+fn hint_for_name(before: &[Token<'_>], behind: &[Token<'_>]) -> &'static str {
+    let is_table = before
+        .last()
+        .is_some_and(|last| is_one_of(last, BEFORE_TABLES));
+    match behind {
+        [word, open, next, ..] if is_one_of(word, LITERALS) && open.is_sign(Symbol::Open) => {
+            if matches!(next.kind, TokenKind::Quote) {
+                NO_CALL
+            } else if is_table {
+                QUOTED
+            } else {
+                FUNCTIONS
+            }
+        }
+        _ => QUOTED,
+    }
+}
+
 /// Returns what to write instead, if known: by the tokens before the place where reading stopped, those from there on,
 /// and the text from there on.
 fn hint_for(before: &[Token<'_>], behind: &[Token<'_>], rest: &str) -> Option<&'static str> {
     if is_name_meant(before, behind) {
-        return Some(QUOTED);
+        return Some(hint_for_name(before, behind));
+    }
+    if let Some(says) = keyword_hint(before, behind) {
+        return Some(says);
     }
     if let Some(says) = habit_hint(before, behind, rest) {
         return Some(says);
@@ -61,7 +89,7 @@ fn hint_for(before: &[Token<'_>], behind: &[Token<'_>], rest: &str) -> Option<&'
     } else if rest.is_empty() && lacks_from(before) {
         Some(NO_TABLE)
     } else {
-        None
+        slip_hint(before, behind, rest)
     }
 }
 
