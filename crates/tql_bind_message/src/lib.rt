@@ -2,8 +2,10 @@
 #![tactic(auto)]
 
 mod distance;
+mod literals;
 pub mod message;
 pub mod names;
 mod nearest;
 mod piece;
+mod slips;
 mod wording;

@@ -1,7 +1,9 @@
 //! Builds the message of a fault, which quotes the words of the statement.
+use crate::literals::{first_fault, push_literal_hint};
 use crate::names::push_key;
 use crate::nearest::{Nearest, Part, nearest_part, nearest_table};
 use crate::piece::{has_word, is_quoted_name, last_name, meant, piece};
+use crate::slips::{begins_with, is_column_alone, push_group_hint, push_last_hint, push_slip_hint};
 use crate::wording::parts;
 use std::alloc::AllocError;
 use tql_bind_expr::about::{About, Cause};
@@ -118,40 +120,6 @@ fn push_wording(
     words.push_str(left)
 }
 
-/// Whether the words at an offset are the literal of a text.
-fn is_text(text: &str, offset: u32) -> bool {
-    piece(text, offset).starts_with('\'')
-}
-
-/// Returns how to write the literal of a date or a timestamp, if a text literal is used in its place.
-fn literal_hint(text: &str, about: &About) -> &'static str {
-    let is_text = match about.cause {
-        Cause::KindsDiffer => is_text(text, about.at) || is_text(text, about.to),
-        Cause::CellKind => is_text(text, about.at),
-        _ => false,
-    };
-    if !is_text {
-        return "";
-    }
-    match (about.kind, about.other) {
-        (Some(Kind::Text), Some(Kind::Day)) | (Some(Kind::Day), Some(Kind::Text)) => {
-            "write a date as DATE 'YYYY-MM-DD'"
-        }
-        (Some(Kind::Text), Some(Kind::Moment)) | (Some(Kind::Moment), Some(Kind::Text)) => {
-            "write a timestamp as TIMESTAMP 'YYYY-MM-DD HH:MM:SS'"
-        }
-        _ => "",
-    }
-}
-
-/// Whether a statement is a CREATE TABLE, whose own columns are in no table yet.
-fn is_create(text: &str) -> bool {
-    match text.trim_start().get(..6) {
-        Some(word) => word.eq_ignore_ascii_case("CREATE"),
-        None => false,
-    }
-}
-
 /// Returns the name that was probably meant by a written name that does not exist.
 fn nearest_name<'a>(
     memory: Memory,
@@ -163,7 +131,7 @@ fn nearest_name<'a>(
     let name = meant(memory, written)?;
     let nearest = match cause {
         Cause::NoTable => nearest_table(name.as_str(), catalog),
-        _ if is_create(text) => Nearest::none(),
+        _ if begins_with(text, "CREATE") => Nearest::none(),
         Cause::NoColumn => nearest_part(memory, name.as_str(), Part::Column, text, catalog)?,
         Cause::NoPeriod | Cause::NotOnePeriod => {
             nearest_part(memory, name.as_str(), Part::Period, text, catalog)?
@@ -215,24 +183,31 @@ fn hint_for(
     about: &About,
 ) -> Result<Words, AllocError> {
     let mut hint = String::new(memory);
-    push_wording(&mut hint, wording, text, catalog, about)?;
-    match about.cause {
-        Cause::NoTable | Cause::NoColumn | Cause::NoPeriod | Cause::NotOnePeriod => {
-            push_name_hint(memory, &mut hint, text, catalog, about)?
-        }
-        _ => hint.push_str(literal_hint(text, about))?,
+    push_literal_hint(memory, &mut hint, text, about)?;
+    push_slip_hint(memory, &mut hint, text, catalog, about)?;
+    if hint.as_str().is_empty() {
+        push_wording(&mut hint, wording, text, catalog, about)?;
+    }
+    if hint.as_str().is_empty() {
+        push_name_hint(memory, &mut hint, text, catalog, about)?;
+    }
+    if hint.as_str().is_empty() {
+        push_last_hint(memory, &mut hint, text, catalog, about)?;
     }
     Ok(hint)
 }
 
 /// Returns a more exact cause, as the words of the statement show it: a column is also ambiguous if two table
-/// references have one name.
+/// references have one name, and a point in time that is not valid is a literal after the name that it is given for.
 fn sharpened(text: &str, about: About) -> About {
     let first = piece(text, about.to);
     if about.cause == Cause::Ambiguous && first.eq_ignore_ascii_case(piece(text, about.also)) {
         return About::at(Cause::SameReference, about.to);
     }
-    about
+    match usize::try_from(about.at) {
+        Ok(from) if about.cause == Cause::NoPoint => first_fault(text, from).unwrap_or(about),
+        _ => about,
+    }
 }
 
 /// Returns the table that qualifies an unknown column, if no table reference of the statement has that name. Then the
@@ -249,6 +224,41 @@ fn unknown_reference<'a>(text: &'a str, about: &About) -> Option<&'a str> {
     }
 }
 
+/// Returns a detail of these words, and of this hint unless it is empty.
+fn detail_with(words: Words, hint: Words) -> Detail {
+    let mut detail = Detail::of(words);
+    if !hint.as_str().is_empty() {
+        detail.hint = Some(hint);
+    }
+    detail
+}
+
+/// Returns what is wrong and what to write, if the words of the statement show it better than the cause.
+fn exact_detail(
+    memory: Memory,
+    text: &str,
+    catalog: &Catalog,
+    about: &About,
+) -> Result<Option<Detail>, AllocError> {
+    let mut words = String::new(memory);
+    let mut hint = String::new(memory);
+    if let Some(reference) = unknown_reference(text, about) {
+        words.push_str("no table reference is named ")?;
+        push_shown(&mut words, reference)?;
+        let name = meant(memory, reference)?;
+        if begins_with(text, "SELECT") && catalog.place_of(name.as_str()).is_some() {
+            hint.push_str("add the table to FROM")?;
+        }
+    } else if about.cause == Cause::LooseColumn && is_column_alone(text, about.at) {
+        push_shown(&mut words, piece(text, about.at))?;
+        words.push_str(" is not grouped")?;
+        push_group_hint(&mut hint, text, about.at)?;
+    } else {
+        return Ok(None);
+    }
+    Ok(Some(detail_with(words, hint)))
+}
+
 /// Returns what is wrong and what to write.
 fn detail_of(
     memory: Memory,
@@ -256,20 +266,14 @@ fn detail_of(
     catalog: &Catalog,
     about: &About,
 ) -> Result<Detail, AllocError> {
-    let mut words = String::new(memory);
-    if let Some(reference) = unknown_reference(text, about) {
-        words.push_str("no table reference is named ")?;
-        push_shown(&mut words, reference)?;
-        return Ok(Detail::of(words));
+    if let Some(detail) = exact_detail(memory, text, catalog, about)? {
+        return Ok(detail);
     }
+    let mut words = String::new(memory);
     let (wrong, says) = parts(about.cause);
     push_wording(&mut words, wrong, text, catalog, about)?;
     let hint = hint_for(memory, says, text, catalog, about)?;
-    let mut detail = Detail::of(words);
-    if !hint.as_str().is_empty() {
-        detail.hint = Some(hint);
-    }
-    Ok(detail)
+    Ok(detail_with(words, hint))
 }
 
 /// Returns the place at an offset of a text, if the offset is known.

@@ -42,7 +42,7 @@ fn length_of(text: &[u8]) -> usize {
 }
 
 /// Returns the part of a statement's text from an offset on.
-fn text_from(text: &str, offset: u32) -> &str {
+pub fn text_from(text: &str, offset: u32) -> &str {
     match usize::try_from(offset) {
         Ok(offset) => text.get(offset..).unwrap_or(""),
         Err(_) => "",
@@ -56,6 +56,12 @@ pub fn piece(text: &str, offset: u32) -> &str {
     }
     let rest = text_from(text, offset);
     rest.get(..length_of(rest.as_bytes())).unwrap_or(rest)
+}
+
+/// Returns the part of a statement's text after the words at an offset.
+pub fn text_after(text: &str, offset: u32) -> &str {
+    let rest = text_from(text, offset);
+    rest.get(length_of(rest.as_bytes())..).unwrap_or("")
 }
 
 /// Whether a character cannot be part of a name.

@@ -70,7 +70,7 @@ fn of_value(cause: Cause) -> &'static str {
         Cause::NoMoment =>
             "{at} is not a timestamp; write TIMESTAMP 'YYYY-MM-DD HH:MM:SS', from year 0001 to 9999",
         Cause::NoPoint =>
-            "a point in time is not valid; write TIMESTAMP 'YYYY-MM-DD HH:MM:SS' or DATE 'YYYY-MM-DD'",
+            "a point in time is not valid; write TIMESTAMP 'YYYY-MM-DD HH:MM:SS', or DATE 'YYYY-MM-DD' for days",
         Cause::PortionNotRising =>
             "the portion of {at} does not end after it starts; write FROM the earlier point TO the later",
         Cause::BeforeHorizon => "the point in time is before the horizon of PRUNE HISTORY",
@@ -92,7 +92,8 @@ fn of_form(cause: Cause) -> &'static str {
         Cause::NotVersioned => "{at} is not WITH SYSTEM VERSIONING; leave out FOR SYSTEM_TIME",
         Cause::GeneratedAssigned => "{at} is generated; leave it out",
         Cause::PeriodAssigned => "{at} is set by FOR PORTION OF; leave it out of SET",
-        Cause::PortionOfSystem => "FOR PORTION OF takes an application period, not SYSTEM_TIME",
+        Cause::PortionOfSystem =>
+            "FOR PORTION OF takes an application period, not SYSTEM_TIME; what was recorded cannot be changed",
         Cause::TableReferenced => "table {table} references {at}; drop {table} first",
         Cause::TooManyTables => "there are already 1000 tables; drop one first",
         Cause::TooManyReaders => "256 readers are open; close one first",
