@@ -2,12 +2,15 @@
 use crate::cells::{Cells, Subject, add_columns, push_subject};
 use crate::checks::{name_check, push_values_read};
 use std::alloc::AllocError;
+use std::cmp::Ordering;
 use tql_bind_message::names::push_column;
 use tql_catalog::table_def::TableDef;
 use tql_detail::detail::Detail;
 use tql_detail::shown::{Words, push_shown};
 use tql_memory::Memory;
 use tql_new_rows::failures::Failed;
+use tql_value::comparison::order;
+use tql_value::value::Kind;
 
 /// Appends the type of a column for whose texts there is a limit: `VARCHAR(20)`.
 fn push_limit(words: &mut Words, definition: &TableDef, column: usize) -> Result<(), AllocError> {
@@ -45,6 +48,22 @@ fn push_null(words: &mut Words, cells: &Cells<'_>, column: usize) -> Result<(), 
     words.push_str(" is NULL")
 }
 
+/// Sets the hint of a column that is NULL, if it is the end of the application period.
+fn advise_end(detail: &mut Detail, definition: &TableDef, column: usize) -> Result<(), AllocError> {
+    let is_end = match definition.application() {
+        Some(application) => application.end == column,
+        None => false,
+    };
+    let kind = match definition.columns().get(column) {
+        Some(column) => Some(column.kind),
+        None => None,
+    };
+    match kind {
+        Some(Kind::Day) if is_end => detail.advise("for no end write DATE '9999-12-31'"),
+        _ => Ok(()),
+    }
+}
+
 /// Appends a period that does not rise: `: VALID from 2025-01-01 to 2024-01-01 does not rise`.
 fn tell_fallen(detail: &mut Detail, cells: &Cells<'_>) -> Result<(), AllocError> {
     detail.words.push_str(": ")?;
@@ -52,6 +71,9 @@ fn tell_fallen(detail: &mut Detail, cells: &Cells<'_>) -> Result<(), AllocError>
         push_shown(&mut detail.words, application.name.as_str())?;
         let ends = [application.start, application.end];
         add_columns(detail, cells.definition, &ends)?;
+        if order(cells.value(application.start), cells.value(application.end)) == Ordering::Equal {
+            detail.advise("the end is the first point after the period")?;
+        }
     }
     cells.push_period(&mut detail.words)?;
     detail.words.push_str(" does not rise")
@@ -82,6 +104,7 @@ fn tell_failed(detail: &mut Detail, cells: &Cells<'_>, failed: Failed) -> Result
         Failed::Null(stored) => {
             let column = column_number(cells, stored);
             push_null(&mut detail.words, cells, column)?;
+            advise_end(detail, cells.definition, column)?;
             add_columns(detail, cells.definition, &[column])
         }
         Failed::Period => tell_fallen(detail, cells),

@@ -34,6 +34,14 @@ fn name_reference(
     detail.words.push(')')
 }
 
+/// Returns what to do for a child row that no row of the parent table matches.
+fn parent_hint(memory: Memory, reference: &Reference) -> Result<Words, AllocError> {
+    let mut hint = String::from_str(memory, "insert that row of ")?;
+    push_shown(&mut hint, reference.parent.as_str())?;
+    hint.push_str(" first")?;
+    Ok(hint)
+}
+
 /// Appends a new child row that has no match in the parent table.
 fn tell_missing(
     detail: &mut Detail,
@@ -52,6 +60,10 @@ fn tell_missing(
     words.push_str(before)?;
     push_shown(words, reference.parent.as_str())?;
     words.push_str(behind)?;
+    if !reference.by_period {
+        let hint = parent_hint(*words.allocator(), reference)?;
+        detail.hint = Some(hint);
+    }
     name_reference(detail, cells, reference)
 }
 

@@ -47,7 +47,9 @@ pub fn clock_detail(memory: Memory, clock: i64, last: Option<i64>) -> Option<Det
         return plain_detail(memory, "the clock has no moment left");
     }
     let words = with_moment(memory, "the last commit was at ", last?).ok()?;
-    Some(Detail::of(words))
+    let mut detail = Detail::of(words);
+    detail.advise("write a later moment").ok()?;
+    Some(detail)
 }
 
 /// Returns the words that say that a moment is before the horizon.
