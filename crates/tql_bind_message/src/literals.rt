@@ -1,10 +1,10 @@
 //! Literals of another form or type than is needed, and what was probably meant. A literal is only offered if it means
 //! the same.
-use crate::piece::{piece, text_after, text_from};
 use std::alloc::AllocError;
 use tql_bind_expr::about::{About, Cause};
 use tql_detail::shown::Words;
 use tql_memory::Memory;
+use tql_near_names::piece::{piece, text_after, text_from};
 use tql_value::literal::{read_date, read_timestamp};
 use tql_value::value::Kind;
 

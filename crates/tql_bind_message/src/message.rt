@@ -1,8 +1,6 @@
 //! Builds the message of a fault, which quotes the words of the statement.
 use crate::literals::{first_fault, push_literal_hint};
 use crate::names::push_key;
-use crate::nearest::{Nearest, Part, nearest_part, nearest_table};
-use crate::piece::{has_word, is_quoted_name, last_name, meant, piece};
 use crate::slips::{begins_with, is_column_alone, push_group_hint, push_last_hint, push_slip_hint};
 use crate::wording::parts;
 use std::alloc::AllocError;
@@ -13,6 +11,8 @@ use tql_detail::detail::Detail;
 use tql_detail::place::Place;
 use tql_detail::shown::{Words, push_shown};
 use tql_memory::Memory;
+use tql_near_names::nearest::{Nearest, Part, nearest_part, nearest_table};
+use tql_near_names::piece::{has_word, is_quoted_name, last_name, meant, piece};
 use tql_value::value::Kind;
 
 /// The maximum number of parts in braces in a wording.

@@ -1,13 +1,13 @@
 //! Names and values at places where they mean nothing, and what to write there.
 use crate::names::push_column;
-use crate::nearest::{first_table, has_column, only_period};
-use crate::piece::{has_word, is_between_words, piece, text_after};
 use std::alloc::AllocError;
 use tql_bind_expr::about::{About, Cause};
 use tql_catalog::catalog::Catalog;
 use tql_catalog::table_def::TableDef;
 use tql_detail::shown::{Words, push_shown};
 use tql_memory::Memory;
+use tql_near_names::nearest::{first_table, has_column, only_period};
+use tql_near_names::piece::{has_word, is_between_words, piece, text_after};
 
 /// Whether a text is one of these words. The case of letters does not matter.
 fn is_one_of(text: &str, words: &str) -> bool {
