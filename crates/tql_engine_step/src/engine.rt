@@ -11,7 +11,8 @@ mod queries;
 mod reading;
 mod transactions;
 
-use crate::reserve::{Reserve, adds_to_tables};
+use crate::lending::{has_room, is_counted, kept_from, kept_now, lent_after};
+use std::cell::Cell;
 use std::marker::Model;
 use tql_bound::bound::Bound;
 use tql_bound::reader::Reader;
@@ -32,14 +33,17 @@ use tql_value::calendar::FIRST_MOMENT;
 use tql_value::refusal::Refusal;
 
 /// An engine: its tables, the store of their rows, the moment of the next transaction, and the open readers. Tables and
-/// readers are in the order of their creation. The moment is in microseconds since 1970-01-01.
+/// readers are in the order of their creation. The moment is in microseconds since 1970-01-01. The reserve is the
+/// number of bytes that are kept back from statements that may keep memory.
 pub struct Engine<I: IntervalIndex> {
     memory: Memory,
     tables: Catalog,
     store: Store<I>,
     next: i64,
     readers: Vec<Reader, Memory>,
-    reserve: Reserve,
+    reserve: usize,
+    /// The bytes that DELETEs have kept of the reserve: lists of the rows that are free, say.
+    lent: Cell<usize>,
 }
 
 impl<I: IntervalIndex> Drop for Engine<I> {
@@ -50,12 +54,12 @@ impl<I: IntervalIndex> Drop for Engine<I> {
             store,
             next: _,
             readers,
-            reserve,
+            reserve: _,
+            lent: _,
         } = self;
         drop(tables);
         drop(store);
         drop(readers);
-        drop(reserve);
     }
 }
 
@@ -100,6 +104,7 @@ impl<I: IntervalIndex> Engine<I> {
     ghost use Rattle.tql_catalog.specs.Tables.{can_have, definitions_of};
     ghost use Rattle.tql_result.specs.Replies.{reply_of, IsPrintableReply};
     ghost use Rattle.tql_engine_step.specs.HoldPoints.{HoldsFor};
+    ghost use Rattle.tql_engine_step.specs.Lending.{keeps_memory, MayBorrow};
     ghost use Rattle.tql_engine_state.specs.Stands.{StandsFor};
     ghost use Rattle.tql_engine_state.specs.Allowed.{IsAllowed};
     ghost use Rattle.tql_engine_state.specs.Dropping.{IsDropped};
@@ -115,10 +120,11 @@ impl<I: IntervalIndex> Engine<I> {
         Engine::with_reserve(memory, 0)
     }
 
-    /// Returns an engine as `new` does, which keeps back a number of bytes from INSERT, UPDATE and CREATE TABLE. Any
+    /// Returns an engine as `new` does, which keeps back a number of bytes of the memory's limit from each statement
+    /// that may keep memory when it has ended: CREATE TABLE, INSERT, UPDATE, DELETE FOR PORTION OF and OPEN READER. Any
     /// other statement that is refused for memory is run once more with them: a query, say, or a DELETE that makes
-    /// room. The bytes are allocated in one block before a statement runs, and not written to. As long as there is no
-    /// room for all of them, none are kept back.
+    /// room. DELETE may not take the last 65,536 of these bytes, and queries not the last 32,768, so DROP TABLE, PRUNE
+    /// HISTORY and CLOSE READER always run. While no statement runs, nothing is kept back.
     #[tactic(auto, using(tql_engine_state::proofs::Standing::new_law, crate::proofs::HoldPoints::new_holds))]
     pub fn with_reserve(memory: Memory, kept_back: usize) -> Engine<I>
         ensures stands { StandsFor result new_state }
@@ -130,7 +136,8 @@ impl<I: IntervalIndex> Engine<I> {
             store: Store::new(memory),
             next: FIRST_MOMENT,
             readers: Vec::new(memory),
-            reserve: Reserve::new(memory, kept_back),
+            reserve: kept_back,
+            lent: Cell::new(0),
         }
     }
 
@@ -204,37 +211,94 @@ impl<I: IntervalIndex> Engine<I> {
         }
     }
 
-    /// Parses a text, whose statement was refused for memory, and runs it with the memory that is kept back. If it adds
-    /// to the tables, it stays refused.
+    /// Counts what a DELETE, or a statement that frees memory, has kept of the reserve or given back. What an open
+    /// transaction keeps is not counted, since a ROLLBACK gives it back.
+    fn count_lent(&self, kept: usize, before: usize) {
+        if is_counted(self.reserve, kept) && !self.store.has_transaction() {
+            let lent = lent_after(self.lent.get(), before, self.memory.in_use());
+            self.lent.set(lent);
+        }
+    }
+
+    /// Keeps the reserve back, but for what DELETEs have kept of it: otherwise a full table that was emptied could not
+    /// be filled again, since the list of its free rows takes some of the reserve.
+    fn keep_reserve(&self) {
+        self.memory.keep_back(self.reserve);
+        if self.lent.get() != 0 && has_room(self.memory) {
+            self.lent.set(0);
+        }
+        self.memory
+            .keep_back(kept_now(self.reserve, self.lent.get()));
+    }
+
+    /// Runs a statement that was refused for memory with memory of the reserve, if it keeps none. Any other one stays
+    /// refused.
+    #[tactic(auto, using(crate::proofs::Borrowing::lent_only, crate::proofs::Borrowing::refused_does))]
+    fn execute_lent(
+        &mut self,
+        statement: &Statement<'_>,
+        refusal: Refusal,
+    ) -> Result<Reply, Refusal>
+        requires narrow { IsFalse (is_too_wide (statement_of statement.now)) }
+        requires memory { refusal ≡ Refusal.OutOfMemory }
+        ensures answered { (s : State) → StandsFor self.old s
+            → DoesStep self.new s result (respond s (statement_of statement.now)) }
+        ensures printable { IfOk result (λ reply. IsPrintableReply (reply_of reply)) }
+        ensures lent { IfOk result (λ reply. IsFalse (keeps_memory (statement_of statement.now))) }
+    {
+        match kept_from(self.reserve, statement) {
+            Some(kept) => {
+                self.memory.keep_back(kept);
+                let before = self.memory.in_use();
+                let outcome = self.execute(statement);
+                self.count_lent(kept, before);
+                outcome
+            }
+            None => Err(refusal),
+        }
+    }
+
+    /// Parses a text, whose statement was refused for memory, and runs it as `execute_lent` does.
     fn run_lent(&mut self, text: &[u8], refusal: Refusal) -> Result<Reply, Refusal>
         requires memory { refusal ≡ Refusal.OutOfMemory }
         ensures answered { (s : State) → StandsFor self.old s
             → Answered Answers s (finished text.now) (reply_by result) (StandsFor self.new) }
         ensures printable { IfOk result (λ reply. IsPrintableReply (reply_of reply)) }
+        ensures lent { IfOk result (λ reply. MayBorrow text.now) }
     {
-        self.reserve.lend(self.memory);
+        self.memory.keep_back(0);
         match read_statement(self.memory, text) {
-            Ok(tree) if adds_to_tables(&tree.statement) => Err(refusal),
-            Ok(tree) => self.execute(&tree.statement),
+            Ok(tree) => self.execute_lent(&tree.statement, refusal),
             Err(refusal) => Err(refusal),
         }
     }
 
     /// Parses a text and runs its statement. If it is refused for memory, it has changed nothing. Then it is run once
-    /// more as `run_lent` does, if some memory is kept back.
-    fn run_text(&mut self, text: &[u8]) -> Result<Reply, Refusal>
+    /// more as `run_lent` does, if there is a reserve.
+    fn run_again(&mut self, text: &[u8]) -> Result<Reply, Refusal>
         ensures answered { (s : State) → StandsFor self.old s
             → Answered Answers s (finished text.now) (reply_by result) (StandsFor self.new) }
         ensures printable { IfOk result (λ reply. IsPrintableReply (reply_of reply)) }
     {
         refused_statements();
-        self.reserve.take_back(self.memory);
         match self.run_once(text) {
-            Err(refusal @ Refusal::OutOfMemory) if self.reserve.is_held() => {
+            Err(refusal @ Refusal::OutOfMemory) if self.reserve != 0 => {
                 self.run_lent(text, refusal)
             }
             outcome => outcome,
         }
+    }
+
+    /// Parses a text and runs its statement as `run_again` does, with the reserve kept back until it is refused.
+    fn run_text(&mut self, text: &[u8]) -> Result<Reply, Refusal>
+        ensures answered { (s : State) → StandsFor self.old s
+            → Answered Answers s (finished text.now) (reply_by result) (StandsFor self.new) }
+        ensures printable { IfOk result (λ reply. IsPrintableReply (reply_of reply)) }
+    {
+        self.keep_reserve();
+        let outcome = self.run_again(text);
+        self.memory.keep_back(0);
+        outcome
     }
 
     /// Runs the statement of a text. COMMIT and ROLLBACK are recognized without parsing, which takes no memory.

@@ -2,4 +2,4 @@
 #![tactic(auto)]
 
 pub mod engine;
-mod reserve;
+mod lending;

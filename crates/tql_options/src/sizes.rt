@@ -57,8 +57,8 @@ pub fn bytes_of(word: &str) -> Option<usize>
     }
 }
 
-/// Returns how many bytes of a limit are kept back from statements that add to the tables: a quarter. None are kept
-/// back if the limit is below 1,048,576 bytes, or if there is none (`usize::MAX`).
+/// Returns how many bytes of a limit are kept back from statements that may keep memory when they have ended: a
+/// quarter. None are kept back if the limit is below 1,048,576 bytes, or if there is none (`usize::MAX`).
 pub fn kept_back(most: usize) -> usize
     ensures { result ≡ kept_back most }
 {

@@ -217,3 +217,37 @@ fn bytes_beyond_the_bound_are_refused(rt: HostRuntime) -> Result<(), Fail> {
     }
     Ok(())
 }
+
+/// Tests that what is kept back of the bound refuses blocks that grow, and none that shrink; and that a new bound
+/// counts what is in use.
+#[test]
+fn bytes_are_kept_back(rt: HostRuntime) -> Result<(), Fail> {
+    let memory = memory_within(rt.alloc(), 100)?;
+    let mut list = Vec::new(memory);
+    for number in 0..5u64 {
+        list.push(number)?;
+    }
+    memory.keep_back(90);
+    let kept = [one_box(memory).is_ok(), list_of(memory, 1).is_ok()];
+    list.shrink_to_fit();
+    let shrunk = memory.in_use();
+    memory.keep_back(52);
+    let beside = [one_box(memory).is_ok(), list_of(memory, 1).is_ok()];
+    memory.bound(80);
+    memory.keep_back(0);
+    let bounded = [list_of(memory, 4).is_ok(), list_of(memory, 5).is_ok()];
+    assert!(rt; kept == [false; 2] && shrunk == 40);
+    assert!(rt; beside == [true, false] && bounded == [true, false]);
+    Ok(())
+}
+
+/// Tests which bytes are promised: those that fit into what is kept back, and all where nothing is.
+#[test]
+fn bytes_are_promised(rt: HostRuntime) -> Result<(), Fail> {
+    let memory = memory_within(rt.alloc(), 100)?;
+    let free = memory.promise(1000).is_ok();
+    memory.keep_back(60);
+    let kept = [memory.promise(60).is_ok(), memory.promise(61).is_ok()];
+    assert!(rt; free && kept == [true, false] && memory.in_use() == 0);
+    Ok(())
+}

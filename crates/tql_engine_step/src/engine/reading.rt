@@ -4,6 +4,8 @@ ghost use Rattle.tql_spec.specs.Words.{same_text};
 ghost use Rattle.tql_engine_state.specs.Readers.{KeptReader, reader_of};
 
 use crate::engine::Engine;
+use crate::lending::{LAST, room_to_close};
+use std::alloc::AllocError;
 use tql_bound::reader::Reader;
 use tql_engine_read::held::reading::is_named;
 use tql_index::index::IntervalIndex;
@@ -34,12 +36,23 @@ impl<I: IntervalIndex> Engine<I> {
     ghost use Rattle.tql_engine_state.specs.Stands.{StandsFor};
     ghost use Rattle.tql_engine_state.specs.Effects.{Does, DoesStep};
 
-    /// Runs OPEN READER. The only error is a refused allocation, and nothing has changed then.
+    /// Refuses a name so long that the text of its CLOSE READER might not be read when the memory is full, since a
+    /// reader that stays open for that reason would keep its history for ever. Refuses none if there is no reserve.
+    fn can_close(&self, name: &str) -> Result<(), AllocError> {
+        self.memory.keep_back(self.reserve.min(LAST));
+        let promised = self.memory.promise(room_to_close(name.len()));
+        self.memory.keep_back(self.reserve);
+        promised
+    }
+
+    /// Runs OPEN READER. The only error is memory: a refused allocation, or a name that could not be closed later
+    /// (`can_close`). Nothing has changed then.
     pub(super) fn open_reader(&mut self, name: String<Memory>) -> Result<Reply, Refusal>
         requires within { IsWithin self.old (machine.OpenReader (string_bytes name)) }
         ensures { (s : State) → StandsFor self.old s
             → DoesStep self.new s result (step s (machine.OpenReader (string_bytes name.entry))) }
     {
+        self.can_close(&name)?;
         let pin = self.store.pin();
         self.readers.push(Reader { name, pin })?;
         Ok(Reply::Done(Verb::OpenedReader, None))
