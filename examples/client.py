@@ -3,21 +3,30 @@
 
 Usage: examples/client.py [PROGRAM]        (./tql by default)
 
-A text of blanks and comments alone is no statement. It has no answer, so `ask` would wait forever: send exactly one statement each time.
+Each text that is sent has exactly one answer. A text without a statement would have none, one of two statements two, and one that ends in a quote
+none until the quote is closed. Later answers would then belong to the wrong statements, so `ask` refuses such texts.
 """
+import itertools
 import json
+import re
 import subprocess
 import sys
 
 program = sys.argv[1] if len(sys.argv) > 1 else "./tql"
 tql = subprocess.Popen([program, "--quiet", "--format", "json"], stdin=subprocess.PIPE, stdout=subprocess.PIPE, encoding="utf-8")
+numbers = itertools.count(1)
 
 
 def ask(statement: str) -> dict:
     """Sends one statement without its semicolon, and returns its answer."""
+    outside = re.sub(r"--[^\n]*|('[^']*'|\"[^\"]*\")", lambda it: "0" if it[1] else " ", statement)
+    if not outside.strip() or re.search("[;'\"]", outside):
+        raise ValueError("not exactly one statement")
     tql.stdin.write(f"{statement}\n;\n")    # the line feed ends a comment
     tql.stdin.flush()
-    return json.loads(tql.stdout.readline())
+    answer = json.loads(tql.stdout.readline())
+    assert answer["statement"] == next(numbers)
+    return answer
 
 
 print(ask("CREATE TABLE price (item INTEGER, cents INTEGER, PRIMARY KEY (item))")["reply"])
