@@ -8,14 +8,14 @@ The pages are README.md, examples/README.md and, in docs/, QUESTIONS.md, RECIPES
 - Examples: a fenced block `sql` is a script and a fenced block `text` is its output. Both belong to the case whose .sql file was linked last
   above the block. The scripts of a case, joined, equal its .sql file without the comments at its head. The outputs, joined, equal its .out
   file. Blank lines are left out. An output in box format equals the tables of the .out file, drawn as boxes. Other blocks are `sh`, `python`
-  and `console`; none has a line over 120 characters.
+  and `console`; none has a line over 120 characters. RECIPES.md may show parts: each block is a run of whole lines of the file, after the one before.
 - QUESTIONS.md: each question also has a case of its own, whose script and output end with those of the page.
 - ERRORS.md: its headings are the numbers and texts of tql_value/src/refusal.rt, each once, by number. Each but E01 is in an output of the cases
   `errors`.
 - MOVING.md: each whole statement in the column "Here" is in a script of the cases `moving`.
 - examples/: each case of the folder `examples` has an equal copy NAME.sql there, and its row in examples/README.md.
 - README.md: each time in its table is in docs/TIMES.md.
-- RECIPES.md: its lines of Python are in examples/client.py.
+- RECIPES.md: it links each case of `recipes`, and its lines of Python are in examples/client.py.
 - Links: the file of each relative link exists, and has the heading that the link names.
 
 With a PROGRAM, README.md's script is run with --format box, and the tables of its standard output are compared with the block line by line;
@@ -128,6 +128,34 @@ def difference(said: list[str], wanted: list[str]) -> str:
     return f"the {whose} alone has {more[min(len(said), len(wanted))]!r}"
 
 
+def missing_parts(parts: list[list[str]], wanted: list[str]) -> Iterator[str]:
+    """Yields the first line of each part that is no run of the lines of a file after the parts before it."""
+    at = 0
+    for part in map(filled, parts):
+        found = next((it for it in range(at, len(wanted)) if wanted[it:it + len(part)] == part), None)
+        if found is None:
+            yield f"the case has no such lines at this place: {part[0]!r} .."
+        else:
+            at = found + len(part)
+
+
+def case_faults(script: Path, texts: list[list[str]], outputs: list[list[str]], is_whole: bool) -> Iterator[str]:
+    """Yields where the blocks of a page differ from the case that they belong to."""
+    wanted, printed = script_lines(lines_of(script)), filled(lines_of(script.with_suffix(".out")))
+    if not is_whole:
+        yield from (f"{script.name}: {it}" for it in missing_parts(texts, wanted))
+        yield from (f"{script.stem}.out: {it}" for it in missing_parts(outputs, printed))
+        return
+    said = script_lines([line for it in texts for line in it])
+    if said != wanted:
+        yield f"{script.name}: {difference(said, wanted)}"
+    said = filled([line for it in outputs for line in it])
+    if any(line[0] in BOX for line in said):
+        printed = boxes(printed)
+    if said != printed:
+        yield f"{script.stem}.out: {difference(said, printed)}"
+
+
 def example_faults(page: Path) -> Iterator[str]:
     """Yields where the examples of a page differ from their cases."""
     name, scripts, outputs = page.relative_to(TOP), {}, {}
@@ -139,16 +167,16 @@ def example_faults(page: Path) -> Iterator[str]:
             if block.script is None:
                 yield f"{name}:{block.line}: no script is linked above this example"
             else:
-                (scripts if block.kind == "sql" else outputs).setdefault(block.script, []).extend(block.lines)
+                (scripts if block.kind == "sql" else outputs).setdefault(block.script, []).append(block.lines)
     for script in sorted({*scripts, *outputs}):
-        said, wanted = script_lines(scripts.get(script, [])), script_lines(lines_of(script))
-        if said != wanted:
-            yield f"{name}: {script.name}: {difference(said, wanted)}"
-        said, wanted = filled(outputs.get(script, [])), filled(lines_of(script.with_suffix(".out")))
-        if any(line[0] in BOX for line in said):
-            wanted = boxes(wanted)
-        if said != wanted:
-            yield f"{name}: {script.stem}.out: {difference(said, wanted)}"
+        found = case_faults(script, scripts.get(script, []), outputs.get(script, []), page.name != "RECIPES.md")
+        yield from (f"{name}: {it}" for it in found)
+
+
+def recipe_faults() -> Iterator[str]:
+    """Yields the cases of `recipes` that RECIPES.md does not link."""
+    page = (TOP / "docs" / "RECIPES.md").read_text(encoding="utf-8")
+    yield from (f"docs/RECIPES.md: no link to {it.name}" for it in sorted((CASES / "recipes").glob("*.sql")) if f"recipes/{it.name})" not in page)
 
 
 def question_faults() -> Iterator[str]:
@@ -253,7 +281,7 @@ def box_faults(program: str) -> Iterator[str]:
 def faults(documents: list[Path]) -> list[str]:
     """Returns what is wrong with the pages and with the links of these documents."""
     wrong = [it for page in PAGES for it in example_faults(TOP / page)]
-    wrong += [*client_faults(None), *question_faults(), *refusal_faults(), *time_faults(), *moving_faults(), *folder_faults()]
+    wrong += [*client_faults(None), *question_faults(), *recipe_faults(), *refusal_faults(), *time_faults(), *moving_faults(), *folder_faults()]
     return wrong + [it for document in documents for it in link_faults(document)]
 
 
