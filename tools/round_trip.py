@@ -1,5 +1,5 @@
 #!/usr/bin/env python3
-"""Sends 10,000 rows through a file of comma-separated values: makes the file, turns it into INSERTs (tools/csv_to_sql.py), has tql run these and
+"""Sends 10,000 rows through a file of comma-separated values: makes the file, turns it into INSERTs (tools/tql-csv), has tql run these and
 print the table with --format csv, and compares that with the file, byte for byte. Outside the gate.
 
 Usage: tools/round_trip.py [ROWS]        (make try-round-trip)
@@ -64,7 +64,7 @@ def first_difference(made: bytes, printed: bytes) -> str:
 def main() -> int:
     count = int(sys.argv[1]) if len(sys.argv) > 1 else 10000
     made = file_of(count)
-    turn = [str(Path(__file__).with_name("csv_to_sql.py")), "t", *(f"{name}:{kind}" for name, kind in COLUMNS)]
+    turn = [str(Path(__file__).with_name("tql-csv")), "t", "--columns", ",".join(f"{name}:{kind}" for name, kind in COLUMNS)]
     inserts = subprocess.run(turn, input=made, stdout=subprocess.PIPE, check=True).stdout
     run = [program(), "--format", "csv"]
     ran = subprocess.run(run, input=TABLE.encode() + inserts + QUERY.encode(), stdout=subprocess.PIPE, stderr=subprocess.PIPE, check=False)
