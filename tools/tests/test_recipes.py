@@ -9,7 +9,7 @@ from common import CASES, TOOLS, TOP, ran, tql
 
 BOOKS = "CREATE TABLE t (n INTEGER);\nINSERT INTO t VALUES (1);\n"
 FILES = {"bank.csv": "id;amount;payee\n1;1.234,50;Łukasz\n2;-0,07;O'Neil\n", "books.sql": BOOKS, "today.sql": "INSERT INTO t VALUES (2);\n",
-         "report.sql": "CREATE TABLE r (n INTEGER);\nSELECT n FROM r;\n", "pay.sql": BOOKS}
+         "report.sql": "CREATE TABLE r (n INTEGER);\nSELECT n FROM r;\n"}
 
 
 class Shell(unittest.TestCase):
@@ -19,9 +19,10 @@ class Shell(unittest.TestCase):
         self.room = Path(folder.name)
         for name, text in FILES.items():
             (self.room / name).write_text(text, encoding="utf-8")
-        (self.room / "stop.sql").write_bytes((CASES / "recipes" / "stop.sql").read_bytes())
-        for name, made in (("tql", tql()), ("tql-csv", TOOLS / "tql-csv"), ("tql-cents", TOOLS / "tql-cents")):
-            (self.room / name).symlink_to(made)
+        for case in ("recipes/stop.sql", "examples/pay.sql"):
+            (self.room / Path(case).name).write_bytes((CASES / case).read_bytes())
+        for made in (Path(tql()), *TOOLS.glob("tql-*")):
+            (self.room / ("tql" if made.parent != TOOLS else made.name)).symlink_to(made)
 
     def shell(self, lines: str):
         return ran(["sh", "-e", "-c", lines], cwd=self.room, env=dict(os.environ, PATH=f"{self.room}:{os.environ['PATH']}"))
@@ -37,6 +38,10 @@ class Shell(unittest.TestCase):
     def test_amounts_come_out_as_they_came_in(self):
         block = next(it for it in self.blocks() if "tql-cents" in it)
         self.assertEqual(self.shell(block).stdout.decode(), "PAYEE;AMOUNT\nO'Neil;-0,07\nŁukasz;1234,50\n")
+
+    def test_the_picture_of_the_readme(self):
+        self.shell(next(it for it in self.blocks() if "tql-timeline" in it))
+        self.assertEqual((self.room / "pay.svg").read_bytes(), (TOP / "docs" / "pay.svg").read_bytes())
 
     def test_a_file_is_appended_only_if_it_is_whole(self):
         block = next(it for it in self.blocks() if "today.sql" in it)
