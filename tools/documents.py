@@ -38,7 +38,7 @@ CRATE = re.compile(r"(?<![\w/.-])(?:tql|test)_[a-z_]*[a-z]\b")
 NAMED = re.compile(r"(?<![\w/:*+-])(?<!\w\.)(?:\.\./)*(?:[\w.+-]+/)*[\w+-]*[\w+](?:\.[\w]+)*(?<!\.)/?")
 FILE = re.compile(r"\.(?:rt|antt|py|sh|md|edit)$")
 # Documents whose names in backticks are those of SQL.
-OF_SQL = ("CHANGELOG.md", "ERRORS.md", "LANGUAGE.md", "MOVING.md", "QUESTIONS.md", "RECIPES.md")
+OF_SQL = ("CHANGELOG.md", "ERRORS.md", "EVIDENCE.md", "LANGUAGE.md", "MOVING.md", "OUTGROWING.md", "POSTGRESQL-FIRST-DAY.md", "QUESTIONS.md", "RECIPES.md")
 FOLDERS, PARTS = ("crates", "docs", "tools", "benches", "examples"), ("src", "specs", "proofs", "must-fail", "edits", "data")
 ANY_NAME = re.compile(r"(?:^|/)(?:NAME|FOLDER|PATH|CRATE|EDIT|EXAMPLE)(?:[./]|$)")
 # A name of the sources in backticks; the words of the sources, remarks apart; and what no source names.
