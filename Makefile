@@ -1,5 +1,5 @@
-.PHONY: help quick run build install test edits lint lines earned bench-index
-.PHONY: try-copies try-readers try-points try-devices try-fuzz try-growth-times try-plans try-round-trip try-details
+.PHONY: help quick run build install package check test edits lint lines earned bench-index
+.PHONY: try-copies try-readers try-points try-devices try-fuzz try-growth-times try-plans try-round-trip try-details try-exports
 .PHONY: map words
 .NOTPARALLEL:
 SECONDS ?= 60
@@ -9,11 +9,13 @@ SCRIPT ?= examples/pay.sql
 
 define HELP
 To use the program:
-  make quick        compiles it optimized and without a proof, in some three minutes, and leaves it as ./tql-quick
-  make run          runs the script SCRIPT=path by ./tql where that is new, else by ./tql-quick, which it makes first
+  make run          runs the script SCRIPT=path (or an example) by ./tql if that is new, else by ./tql-quick, which it makes first
+  make quick        compiles ./tql-quick, optimized and without a proof, in some three minutes
   make build        proves it, with a line for each crate, and leaves it as ./tql
-  make install      installs ./tql (or TQL=path), its manual page, two documents and the licences below PREFIX=/usr/local
+  make install      installs ./tql (or TQL=path), its tools, manual page, completions and documents below PREFIX=/usr/local
+  make package      packs the same as dist/tql-VERSION-linux-x86_64.tar.gz and a .deb
 To prove and test:
+  make check        tries all that needs no proof: cases, units, command lines, documents and tools, in some ten minutes
   make test         runs the gate: make lint, the command lines of the program, every proof and every test, from nothing; says what it cost
                     PLAIN=1 runs rt ci as the kit has it (see tools/gate.py), which takes hours with some kits
   make edits        tries the must-fail edits, which the prover must refuse: all, or CRATE=name, or EDIT=name too
@@ -24,7 +26,7 @@ To prove and test:
 To measure and to try at length:
   make bench-index  proves and runs the program that times the indexes; COUNTS="1000 10000" are its numbers of entries
   make try-NAME     copies, readers, points: are the generated cases up to date? devices, fuzz (SECONDS=60), growth-times,
-                    plans (COUNT=1000), round-trip, details: try ./tql at length
+                    plans (COUNT=1000), round-trip, details, exports: try ./tql at length
 endef
 export HELP
 
@@ -41,10 +43,13 @@ build:
 	@tools/build.py
 
 install:
-	@[ -x "$(TQL)" ] || { echo "make install: there is no $(TQL) yet; make build leaves ./tql" >&2; exit 2; }
-	install -D -m 755 "$(TQL)" "$(DESTDIR)$(PREFIX)/bin/tql"
-	install -D -m 644 docs/tql.1 "$(DESTDIR)$(PREFIX)/share/man/man1/tql.1"
-	install -D -m 644 -t "$(DESTDIR)$(PREFIX)/share/doc/tql" LICENSE-APACHE LICENSE-MIT docs/LANGUAGE.md docs/QUESTIONS.md
+	@tools/install.py "$(TQL)" "$(DESTDIR)$(PREFIX)"
+
+package:
+	@tools/package.py "$(TQL)"
+
+check:
+	@tools/check.py
 
 test: lint lines
 	@tools/gate.py $(if $(PLAIN),--plain)
@@ -90,3 +95,6 @@ try-round-trip:
 
 try-details:
 	@tools/details.py
+
+try-exports:
+	@tools/exports.py

@@ -1,5 +1,5 @@
 #!/bin/sh
-# Runs a script of SQL, and prints its replies.
+# Runs a script of SQL, and prints its replies, tables as boxes.
 #
 # Usage: tools/run.sh SCRIPT        (make run [SCRIPT=path])
 #
@@ -16,8 +16,8 @@ is_new() {
     [ -x "$1" ] && [ -z "$(find crates crates.txt -name out -prune -o \( -name '*.rt' -o -name "$2" -o -name crates.txt \) -newer "$1" -print -quit)" ]
 }
 if is_new tql '*.antt'; then
-    exec ./tql "$script"
+    exec ./tql --format box "$script"
 fi
 is_new tql-quick '*.rt' || tools/quick.py --silent >&2 || exit 2
 echo "make run: by ./tql-quick, which is compiled without a proof; make build proves the program" >&2
-exec ./tql-quick "$script"
+exec ./tql-quick --format box "$script"
