@@ -1,5 +1,5 @@
 .PHONY: help quick run build install package check test edits lint lines earned bench-index
-.PHONY: try-copies try-readers try-points try-devices try-fuzz try-growth-times try-plans try-round-trip try-details try-exports
+.PHONY: try-copies try-readers try-points try-devices try-fuzz try-growth-times try-plans try-round-trip try-details try-exports try-recipes
 .PHONY: map words
 .NOTPARALLEL:
 SECONDS ?= 60
@@ -19,14 +19,14 @@ To prove and test:
   make test         runs the gate: make lint, the command lines of the program, every proof and every test, from nothing; says what it cost
                     PLAIN=1 runs rt ci as the kit has it (see tools/gate.py), which takes hours with some kits
   make edits        tries the must-fail edits, which the prover must refuse: all, or CRATE=name, or EDIT=name too
-  make lines        tries the command lines of the program, in a minute or two and without a proof
+  make lines        tries the command lines of the program and the tools' tests, in some three minutes and without a proof
   make lint         checks code, documents, their numbers and what each crate costs the gate, in seconds
   make map          prints what each crate is, by area; with CRATE=name what the modules of one are
   make words        counts the words of the documents, by page
 To measure and to try at length:
   make bench-index  proves and runs the program that times the indexes; COUNTS="1000 10000" are its numbers of entries
   make try-NAME     copies, readers, points: are the generated cases up to date? devices, fuzz (SECONDS=60), growth-times,
-                    plans (COUNT=1000), round-trip, details, exports: try ./tql at length
+                    plans (COUNT=1000), round-trip, details, exports, recipes: try ./tql at length
 endef
 export HELP
 
@@ -98,3 +98,6 @@ try-details:
 
 try-exports:
 	@tools/exports.py
+
+try-recipes:
+	@tools/recipes.py
