@@ -1,5 +1,5 @@
 -- Lookups: an equality after a calculation.
-use Rattle.std.specs.Prelude.{Bool, true, false, List, [], ◌∷◌, pos, Option, Some, None}
+use Rattle.std.specs.Prelude.{true, false, List, [], ◌∷◌, pos, Option, Some, None}
 use Rattle.tql_spec.specs.Datum.{Int, Ints, Plus, Equals, Above}
 use Rattle.tql_spec.specs.Definition.{TableDef}
 use Rattle.tql_spec.specs.Expression.{Binary, Column, Compare, Cond, Literal}
