@@ -10,5 +10,5 @@ nothing_is_right = record { said = None; by = refl; is = refl }
 pub key_is_wrong : IsAccess by_key → ⊥
 key_is_wrong clause =
     let e : IsOrRanged keyed_table [] true None by_key =
-        subst (λ said. IsOrRanged keyed_table [] true said by_key) clause.by clause.is
+    subst (λ said. IsOrRanged keyed_table [] true said by_key) clause.by clause.is
     in absurd (cc)
