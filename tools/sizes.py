@@ -7,10 +7,13 @@ Each row is a form of input, each column a size; a time is the least of TIMES ru
 and what it says on the standard error included. What the program prints is compared with what docs/LANGUAGE.md says of such an input. The last column
 says by how much a doubling may multiply the time: 3, or 2.4 where a row of one key value must not cost more the more there are of it, or a member of
 a list not more the longer the list is in which it is looked up, or 1.5 where only what lies beside it is doubled. The status is 1 where an answer is
-wrong, where a doubling does more, or where a run takes over a minute; such a row ends there. What takes less than 50 ms is taken as 50. The program is
+wrong, where a doubling does more, or where a run takes over a minute; such a row ends there. What takes less than 50 ms is taken as 50. The row of
+PRUNE HISTORY has the instructions of one run by valgrind, where that is there: its time is short, and says little beside other work. The program is
 TQL=path, or ./tql where it is newer than every source, or else ./tql-quick, which is compiled first where it has to be (make quick).
 """
+import re
 import resource
+import shutil
 import subprocess
 import sys
 import tempfile
@@ -22,6 +25,9 @@ sys.dont_write_bytecode = True
 from quick import program
 
 FLOOR, PATIENCE, TRIPLE, DOUBLE, ALIKE = 0.05, 60, 3.0, 2.4, 1.5
+# Of what is counted: how many seconds of valgrind are waited for, and below how many instructions the start of the program counts too much.
+COUNTING, FEWEST = 600, 1e7
+COLLECTED = re.compile(rb"Collected : (\d+)")
 MADE, ONE = "CREATE TABLE t (x INTEGER, y VARCHAR(65535));\nINSERT INTO t VALUES (1, 'a');\n", "CREATE TABLE\nINSERT 1\n"
 ROW, NONE = "X\n1\n(1 rows)\n", "X\n(0 rows)\n"
 LONGEST = 1048576
@@ -236,6 +242,13 @@ def by_reader(size: int) -> tuple[str, str]:
             "CREATE TABLE\nAT\nINSERT 1\nOPEN READER\n" + replies + "X\n0\n(1 rows)\n" * ASKED)
 
 
+def prunes(size: int) -> tuple[str, str]:
+    """So many PRUNEs and changes of one row in turn, each PRUNE of the oldest of so many versions."""
+    changes, replies = history(size)
+    turns = "".join(f"PRUNE HISTORY BEFORE TIMESTAMP '2011-01-01 00:00:00.{it:06}';\n{history(1)[0]}" for it in range(1, size + 1))
+    return HOT + changes + turns, "CREATE TABLE\nAT\nINSERT 1\n" + replies + "PRUNE HISTORY\nUPDATE 1\n" * size
+
+
 def beside(size: int) -> tuple[str, str]:
     """20,000 INSERTs beside so many tables with references to another one."""
     made = "".join(f"CREATE TABLE c{it} (x INTEGER, FOREIGN KEY (x) REFERENCES k (x));\n" for it in range(size))
@@ -347,12 +360,17 @@ FORMS = (
     ("SELECTs by key and day, periods of one key value", 2500, by_day, DOUBLE),
     ("UPDATEs of a day's portion, periods of one key value", 2500, by_portion, DOUBLE),
     ("SELECTs AS OF by key, versions of one row", 2500, as_of, DOUBLE), ("READs by key, versions of one row", 2500, by_reader, DOUBLE),
+    ("PRUNEs of the oldest version of one row, PRUNEs and versions", 300, prunes, DOUBLE),
     ("INSERTs beside tables with references, tables", 110, beside, ALIKE),
     ("DISTINCT of numbers whose digests were chosen", 2500, distinct, DOUBLE),
     ("GROUP BY of pairs with one digest", 2500, groups, DOUBLE),
     ("SELECTs by a range of five keys, rows", 1250, ranges, DOUBLE),
     ("UPDATEs and DELETEs by a range of five keys, rows", 2500, range_changes, DOUBLE),
 )
+
+
+# The forms of which instructions are counted.
+COUNTED = (prunes,) if shutil.which("valgrind") else ()
 
 
 def spent() -> float:
@@ -371,9 +389,20 @@ def timed(words: list[str], file: Path, times: int) -> tuple[float, str]:
     return best, text
 
 
-def is_steep(best: list[float], most: float) -> bool:
-    """Whether the last doubling multiplies the time by more than that."""
-    return len(best) > 1 and max(best[-1], FLOOR) > most * max(best[-2], FLOOR)
+def counted(words: list[str], file: Path) -> tuple[float, str]:
+    """The instructions of the program on a file, and what it prints."""
+    # (what valgrind leaves goes into the file's folder)
+    words = ["valgrind", "--tool=callgrind", f"--callgrind-out-file={file.parent}/out", *words, str(file)]
+    ran = subprocess.run(words, stdout=subprocess.PIPE, stderr=subprocess.PIPE, timeout=COUNTING, check=False)
+    found = COLLECTED.search(ran.stderr)
+    if not found:
+        sys.exit(f"valgrind: {ran.stderr.decode(errors='replace')[-600:]}")
+    return float(found[1]), ran.stdout.decode(errors="replace")
+
+
+def is_steep(best: list[float], most: float, floor: float) -> bool:
+    """Whether the last doubling multiplies the time, or the instructions, by more than that."""
+    return len(best) > 1 and max(best[-1], floor) > most * max(best[-2], floor)
 
 
 def main() -> int:
@@ -384,22 +413,22 @@ def main() -> int:
         words, file = [program()], Path(room) / "script.sql"
         print("| Input | Size | times 1 | times 2 | times 4 | times 8 | at most |\n|---|---|---|---|---|---|---|")
         for what, size, form, most in FORMS:
-            best, said = [], ""
+            best, said, is_counted = [], "", form in COUNTED
             for factor in (1, 2, 4, 8):
                 script, wanted = form(size * factor)
                 file.write_text(script, encoding="utf-8")
                 try:
-                    taken, text = timed(words, file, times)
+                    taken, text = counted(words, file) if is_counted else timed(words, file, times)
                 except subprocess.TimeoutExpired:
                     said += f" TOO SLOW at times {factor}"
                     break
                 best.append(taken)
                 said += "" if text == wanted else f" WRONG ANSWER at times {factor}"
-                if is_steep(best, most):
+                if is_steep(best, most, FEWEST if is_counted else FLOOR):
                     said += f" TOO STEEP at times {factor}"
                     break
             wrong += bool(said)
-            shown = [f"{it * 1000:,.0f} ms" for it in best] + [""] * (4 - len(best))
+            shown = [f"{it / 1e6:,.0f} M instructions" if is_counted else f"{it * 1000:,.0f} ms" for it in best] + [""] * (4 - len(best))
             print(f"| {what} | {size:,} | {' | '.join(shown)} | {most} |{said}", flush=True)
     print(f"{wrong} wrong")
     return 1 if wrong else 0
