@@ -1,6 +1,6 @@
 .PHONY: help quick run build install package check test edits lint lines earned bench-index
 .PHONY: try-copies try-readers try-points try-devices try-fuzz try-growth-times try-plans try-round-trip try-details try-exports try-recipes
-.PHONY: map words
+.PHONY: map proofs laws words
 .NOTPARALLEL:
 SECONDS ?= 60
 PREFIX ?= /usr/local
@@ -22,6 +22,8 @@ To prove and test:
   make lines        tries the command lines of the program and the tools' tests, in some three minutes and without a proof
   make lint         checks code, documents, their numbers and what each crate costs the gate, in seconds
   make map          prints what each crate is, by area; with CRATE=name what the modules of one are
+  make proofs       prints the public functions that have contracts, by area; with CRATE=name those of one, with all that they say
+  make laws         prints the laws about the definitions
   make words        counts the words of the documents, by page
 To measure and to try at length:
   make bench-index  proves and runs the program that times the indexes; COUNTS="1000 10000" are its numbers of entries
@@ -65,6 +67,12 @@ lint:
 
 map:
 	@tools/map.py $(CRATE)
+
+proofs:
+	@tools/proofs.py $(CRATE)
+
+laws:
+	@tools/proofs.py --laws
 
 words:
 	@tools/words.py --look
