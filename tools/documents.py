@@ -15,6 +15,7 @@ The documents are the pages at the top, docs/*.md, docs/areas/*.md and the READM
 - In each line '| `Module` | 12 |' of docs/DEFINITIONS.md the number is the module's count of lines (of tql_spec, or of the named file of another
   crate). --count writes the numbers anew.
 - A line of .rt and .antt has at most 120 characters, except the attributes #[tactic(..)], which the formatter joins.
+- Each function that docs/PROOFS.md names with its file is there, with its clauses: see tools/proofs.py.
 - No document has a mark of a merge that was left open.
 - All documents together have at most the number of words of tools/words.py.
 - Examples and links: see tools/pages.py.
@@ -29,6 +30,7 @@ from pathlib import Path
 sys.dont_write_bytecode = True
 import map as crate_map  # noqa: E402
 import pages  # noqa: E402
+import proofs  # noqa: E402
 import words as word_counts  # noqa: E402
 
 TOP = Path(__file__).resolve().parent.parent
@@ -116,7 +118,7 @@ def main(words: list[str]) -> int:
             wrong += [f"{said}: there is no {it}" for it in NAMED.findall(line) if not is_there(it, document, files, crates)]
             if document.name not in OF_SQL:
                 wrong += [f"{said}: no source names {it}" for it in QUOTED.findall(line) if not named.issuperset(it.split("::"))]
-    wrong += crate_map.faults()
+    wrong += crate_map.faults() + proofs.faults()
     for path, source in sources.items():
         for at, line in enumerate(source.split("\n"), 1):
             if len(line) > COLUMNS and not line.lstrip().startswith("#[tactic("):
