@@ -7,7 +7,7 @@ Of all crates it prints the first sentence of each function's docstring, of one 
 whose code does nothing: with the text of each clause, and the whole docstring.
 
 tools/documents.py calls `faults`: each row of docs/PROOFS.md whose third cell is a file of code names functions of that file, with their clauses.
-'`f`, `g` (`c`, `d`); `h`' are f and g, each with the clauses c and d, and h.
+'`f`, `g` (`c`, `d`); `h`' are f and g, each with the clauses c and d, and h. A file of the fourth cell without a path is in specs/ of that crate.
 """
 import re
 import sys
@@ -21,8 +21,8 @@ from mutants import FUNCTION, TOP, owner_of  # noqa: E402
 
 PAGE = TOP / "docs" / "PROOFS.md"
 CLAUSE = re.compile(r"ensures\*?(?: (\w+))? \{(.*)")
-ROW = re.compile(r"^\| .* \| (.*) \| `(\w+/src/[\w/]+\.rt)`.* \|$", re.M)
-QUOTED = re.compile(r"`([\w:]+)`")
+ROW = re.compile(r"^\| .* \| (.*) \| `((\w+)/src/[\w/]+\.rt)` \| (.*) \|$", re.M)
+QUOTED, DEFINED = re.compile(r"`([\w:]+)`"), re.compile(r"`(\w+\.antt)`")
 
 
 class Contract(NamedTuple):
@@ -96,11 +96,13 @@ def printed(it: Contract, is_whole: bool, is_law: bool) -> str:
 
 
 def faults() -> list[str]:
-    """Returns what docs/PROOFS.md names and no code has: a file, a function of it, or its clause."""
+    """Returns what docs/PROOFS.md names and no crate has: a function of a file, its clause, or a file of definitions."""
     wrong = []
-    for cell, path in ROW.findall(PAGE.read_text(encoding="utf-8")):
+    for cell, path, crate, defined in ROW.findall(PAGE.read_text(encoding="utf-8")):
         file = TOP / "crates" / path
         there = list(in_file(file)) if file.is_file() else []
+        absent = [it for it in DEFINED.findall(defined) if not (TOP / "crates" / crate / "specs" / it).is_file()]
+        wrong += [f"docs/PROOFS.md: specs/ of {crate} has no {it}" for it in absent]
         for group in cell.split(";"):
             names, _, listed = group.partition("(")
             for name in QUOTED.findall(names):
