@@ -13,6 +13,7 @@ import importlib.util
 import os
 import re
 import shutil
+import signal
 import subprocess
 import sys
 import tempfile
@@ -235,6 +236,7 @@ def repeated(tql: Tql, server: Server, tables: list) -> "tuple[int, list]":
 def main(words: list) -> int:
     scripts = [Path(it) for it in words] or sorted([*(CASES / "recipes").glob("*.sql"), *(CASES / "examples").glob("*.sql")])
     program, asked, added, wrong, kept = quick.program(), 0, 0, [], None
+    signal.signal(signal.SIGTERM, lambda number, _: sys.exit(128 + number))    # so that the servers are ended
     with tempfile.TemporaryDirectory(prefix="tql-exports-") as folder:
         os.chmod(folder, 0o755)
         servers = [MariaDB(Path(folder), "mysql"), PostgreSQL(Path(folder), "postgres")]

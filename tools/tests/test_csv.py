@@ -77,6 +77,7 @@ REFUSED = (
     ("a history that overlaps", HISTORY + "2,9,2023-08-01,\n", VERSIONS, 1, "line 5: its time overlaps that of line 4"),
     ("a history that runs backwards", HISTORY + "3,9,2023-08-01,2023-08-01\n", VERSIONS, 1, "line 5: its end"),
     ("a history without a key", HISTORY, ["t", "--start", "von", "--end", "bis"], 2, "--key"),
+    ("a key of moments", HISTORY, ["t", "--key", "item,von", "--start", "von", "--end", "bis"], 2, "name columns of the table"),
     ("a key that is NULL", HISTORY + ",9,2023-08-01,\n", VERSIONS, 1, "line 5: its key is NULL"),
     ("finer than the clock", HISTORY + "3,9,2023-08-01 00:00:00.1234567,\n", VERSIONS, 1, "line 5"),
     ("Excel's note", "sep=;\na;b\n1;2\n", ["t"], 1, "not a heading"),
