@@ -6,7 +6,7 @@ use Rattle.tql_spec.specs.HorizonLaws.{PrunesAreUnseen}
 use Rattle.tql_spec.specs.Machine.{State}
 use Rattle.tql_spec.specs.Run.{RunBy}
 use Rattle.tql_spec.specs.Script.{Piece}
-use Rattle.tql_points.proofs.PointRuns.{runs_agree}
+use Rattle.tql_points.proofs.PointRuns.{runs_agree_behind}
 use Rattle.tql_run.specs.Ending.{Responds}
 use Rattle.tql_run.specs.Hearing.{HearingChange}
 use Rattle.tql_run.specs.Responding.{Standing}
@@ -28,7 +28,7 @@ module _ (prunes : PrunesAreUnseen) (reads : RunsReadStably) where
       record {
         replies = r.replies;
         all = r.all;
-        points = runs_agree s pieces r.replies new r.ran;
+        points = runs_agree_behind s pieces r.replies new r.ran;
         readers = reads s new pieces r.replies r.ran;
         unseen = λ ordered. prunes s new pieces r.replies ordered r.ran;
       }

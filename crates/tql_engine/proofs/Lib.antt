@@ -5,3 +5,4 @@ pub mod ReaderRuns
 pub mod Agreeing
 pub mod SessionRuns
 pub mod RunHolds
+pub mod Together

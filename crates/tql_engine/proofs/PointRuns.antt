@@ -4,7 +4,7 @@ use Rattle.std.specs.Prelude.{Result}
 use Rattle.tql_spec.specs.Machine.{State, Reply}
 use Rattle.tql_spec.specs.Script.{statements}
 use Rattle.tql_spec.specs.Run.{Run, finished}
-use Rattle.tql_points.proofs.PointRuns.{runs_agree}
+use Rattle.tql_points.proofs.PointRuns.{runs_agree_behind}
 use Rattle.tql_run.specs.Responding.{Standing}
 use Rattle.tql_run.specs.declared.runner.Summary.{Summary}
 use Rattle.tql_run.specs.declared.runner.Fault.{Fault}
@@ -17,8 +17,8 @@ use Rattle.tql_engine.specs.PointRuns.{BytesAgreeAtPoints, Steps, StepsAgreeAtPo
 pub bytes_agree : (s : State) (after : Standing) (script old new : List ℕ) (result : Result Summary Fault)
     → RunsBytes s after script old new result → BytesAgreeAtPoints s after script old new result
 bytes_agree s after script old new (Ok summary) w =
-    (w, runs_agree s (statements script) w.writes.0 w.state w.writes.1)
-bytes_agree s after script old new (Err Write) w = (w, runs_agree s w.done w.replies w.state w.ran)
+    (w, runs_agree_behind s (statements script) w.writes.0 w.state w.writes.1)
+bytes_agree s after script old new (Err Write) w = (w, runs_agree_behind s w.done w.replies w.state w.ran)
 bytes_agree s after script old new (Err Memory) w = w.1
 bytes_agree s after script old new (Err Read) w = w.1
 
@@ -46,5 +46,5 @@ steps_agree old new texts replies e s st =
       state = k.state;
       stands = k.stands;
       ran = k.ran;
-      agrees = runs_agree s (map finished texts) replies k.state k.ran;
+      agrees = runs_agree_behind s (map finished texts) replies k.state k.ran;
     }

@@ -7,26 +7,28 @@ use Rattle.tql_spec.specs.HorizonLaws.{PrunesAreUnseen}
 use Rattle.tql_spec.specs.Machine.{State, Reply}
 use Rattle.tql_spec.specs.Run.{Answers, Run}
 use Rattle.tql_spec.specs.Script.{Piece, statements}
-use Rattle.tql_points.proofs.PointRuns.{runs_agree}
+use Rattle.tql_points.proofs.PointRuns.{runs_agree_behind}
+use Rattle.tql_turns.specs.Merge.{Call, Feed, Finish, Next, fed}
 use Rattle.tql_splitter.specs.Holding.{Holds}
 use Rattle.tql_splitter.specs.Pieces.{MayFollow}
 use Rattle.tql_splitter.specs.Stream.{Stream}
 use Rattle.tql_result.specs.Replies.{answer_of}
+use Rattle.tql_result.specs.declared.answer.Answer as code
 use Rattle.tql_run.specs.Responding.{Answered}
 use Rattle.tql_engine_step.proofs.HoldPoints.{step_holds}
 use Rattle.tql_run.specs.Ending.{AllEndSurely, EndsSurely, Responds}
 use Rattle.tql_engine_step.specs.HoldPoints.{HoldsFor}
 use Rattle.tql_engine.specs.ReaderRuns.{RunsReadStably}
-use Rattle.tql_engine.specs.Sessions.{Call, Feed, Finish, Next, Calls, fed, given, SessionsHold}
+use Rattle.tql_engine.specs.Sessions.{Calls, given, SessionsHold}
 use Rattle.tql_engine_state.specs.Stands.{EngineModel, StandsFor}
 
 -- after the end is reported, no bytes come
-record IsOver (calls : List Call) (new : Stream) : Type 0 where
+record IsOver (calls : List (Call code.Answer)) (new : Stream) : Type 0 where
   none : fed calls ≡ []
   ended : IsTrue new.ended
 
-over : (calls : List Call) (old new : Stream) (before after : EngineModel) → Calls calls old before new after
-    → IsTrue old.ended → IsOver calls new
+over : (calls : List (Call code.Answer)) (old new : Stream) (before after : EngineModel)
+    → Calls calls old before new after → IsTrue old.ended → IsOver calls new
 over [] old new before after (e, _) t = record { none = refl; ended = subst (λ (x : Stream). IsTrue x.ended) (sym e) t }
 over (Feed bytes ∷ cs) old new before after (mid, (between, (turn, rest))) t =
     let o = over cs mid new between after rest (subst IsTrue (sym turn.0.ended) t) in
@@ -41,14 +43,16 @@ over (Next (Some answer) ∷ cs) old new before after (mid, (between, (turn, res
     record { none = o.none; ended = o.ended }
 
 -- bytes that may follow all calls may follow the bytes that they feed
-may_follow : (calls : List Call) (old new : Stream) (before after : EngineModel) → Calls calls old before new after
-    → (more : List ℕ) → MayFollow new.ended more → MayFollow old.ended (fed calls ++ more)
+may_follow : (calls : List (Call code.Answer)) (old new : Stream) (before after : EngineModel)
+    → Calls calls old before new after → (more : List ℕ) → MayFollow new.ended more
+    → MayFollow old.ended (fed calls ++ more)
 may_follow calls old new before after turns more m t =
     let o = over calls old new before after turns t in
     ap (λ bs. bs ++ more) o.none ∙ m o.ended
 
 -- calls from any point of a session on: the answers are those of the first statements of what is left and is fed
-record RanOn (s : State) (ahead : List ℕ) (calls : List Call) (stream : Stream) (after : EngineModel) : Type 0 where
+record RanOn (s : State) (ahead : List ℕ) (calls : List (Call code.Answer)) (stream : Stream) (after : EngineModel)
+    : Type 0 where
   done : List Piece
   left : List ℕ
   first : (more : List ℕ) → MayFollow stream.ended more
@@ -80,7 +84,7 @@ three : (as' bs cs ds : List ℕ) → as' ++ (bs ++ cs) ++ ds ≡ (as' ++ bs) ++
 three as' bs cs ds =
     ap (λ xs. xs ++ ds) (sym (append_assoc as' bs cs))
 
-ran_on : (calls : List Call) (old new : Stream) (before after : EngineModel) (passed left : List ℕ)
+ran_on : (calls : List (Call code.Answer)) (old new : Stream) (before after : EngineModel) (passed left : List ℕ)
     → Holds old passed left → Calls calls old before new after → (s : State) → HoldsFor before s
     → RanOn s left calls new after
 ran_on [] old new before after passed left holds (e, same) s h = record {
@@ -169,7 +173,7 @@ sessions_hold prunes reads old new before after calls holds turns s h =
       ran = k.ran;
       ends = k.ends;
       holds = k.holds;
-      agrees = runs_agree s k.done k.replies k.state k.ran;
+      agrees = runs_agree_behind s k.done k.replies k.state k.ran;
       readers = reads s k.state k.done k.replies k.ran;
       unseen = λ ordered. prunes s k.state k.done k.replies ordered k.ran;
     }

@@ -5,7 +5,7 @@ use Rattle.tql_spec.specs.HorizonLaws.{RunsWithout, other_pieces, other_replies}
 use Rattle.tql_spec.specs.Machine.{State, Reply}
 use Rattle.tql_spec.specs.Reached.{IsInOrder}
 use Rattle.tql_spec.specs.Script.{Piece}
-use Rattle.tql_points.specs.PointRun.{AgreesAtPoints}
+use Rattle.tql_points.specs.PointRun.{AgreesBehind}
 use Rattle.tql_run.specs.Ending.{Responds}
 use Rattle.tql_run.specs.Hearing.{HearingChange}
 use Rattle.tql_run.specs.Responding.{Standing}
@@ -23,7 +23,7 @@ use Rattle.tql_engine.specs.ReaderRuns.{ReadsStably}
 pub record Agrees (s : State) (pieces : List Piece) (answers : List Answer) (new : State) : Type 0 where
   pub replies : List Reply
   pub all : answers ≡ map Replied replies
-  pub points : AgreesAtPoints s pieces replies new
+  pub points : AgreesBehind s pieces replies new
   pub readers : ReadsStably s pieces replies
   pub unseen : IsInOrder s → RunsWithout s (other_pieces pieces replies) (other_replies replies) new
 

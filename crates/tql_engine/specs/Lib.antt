@@ -4,3 +4,4 @@ pub mod Unseen
 pub mod ReaderRuns
 pub mod Agreeing
 pub mod Sessions
+pub mod Together

@@ -3,7 +3,7 @@ use Rattle.std.specs.Prelude.{◌≡◌, ℕ, List, [], ◌∷◌, map, Result, 
 use Rattle.tql_spec.specs.Machine.{State, Reply}
 use Rattle.tql_spec.specs.Script.{statements}
 use Rattle.tql_spec.specs.Run.{Answers, Run, finished}
-use Rattle.tql_points.specs.PointRun.{AgreesAtPoints}
+use Rattle.tql_points.specs.PointRun.{AgreesBehind}
 use Rattle.tql_run.specs.Responding.{Standing, Answered}
 use Rattle.tql_run.specs.declared.runner.Summary.{Summary}
 use Rattle.tql_run.specs.declared.runner.Fault.{Fault}
@@ -17,9 +17,9 @@ use Rattle.tql_engine_state.specs.Stands.{EngineModel, StandsFor}
 -- points; else nothing ran
 abbrev pub BytesAgreeAtPoints : State → Standing → (script old new : List ℕ) → Result Summary Fault → Type 0
 BytesAgreeAtPoints s after script old new (Ok summary) =
-    (w : WritesWhole s after script old new summary) × AgreesAtPoints s (statements script) w.writes.0 w.state
+    (w : WritesWhole s after script old new summary) × AgreesBehind s (statements script) w.writes.0 w.state
 BytesAgreeAtPoints s after script old new (Err Write) =
-    (w : StopsWriting s after script old new) × AgreesAtPoints s w.done w.replies w.state
+    (w : StopsWriting s after script old new) × AgreesBehind s w.done w.replies w.state
 BytesAgreeAtPoints s after script old new (Err Memory) = after s
 BytesAgreeAtPoints s after script old new (Err Read) = after s
 
@@ -39,7 +39,7 @@ pub record StepsAgree (s : State) (texts : List (List ℕ)) (replies : List Repl
   pub state : State
   pub stands : StandsFor new state
   pub ran : Run s (map finished texts) replies state
-  pub agrees : AgreesAtPoints s (map finished texts) replies state
+  pub agrees : AgreesBehind s (map finished texts) replies state
 
 -- the law: this is so from every state that the engine represents
 abbrev pub StepsAgreeAtPoints : Type 0

@@ -52,11 +52,11 @@ const TOO_MANY_BYTES: usize = MOST_PULLS as usize;
 /// # Further guarantees
 ///
 /// Clause `agrees`: at each point of time, the run does what a reference model without periods does. This requires that
-/// its first statements create tables in scope, and that the later ones are in scope. A READ has the reply that its
-/// query would have had when the reader was opened, whatever was written since, unless it is refused for the horizon,
-/// the reader or memory. Pruning is not visible: without the statements that pruned, or were refused for the horizon,
-/// all others have the same replies. Clause `holds`: if keys and references hold at every point of time in each copy of
-/// the reference model, they still do after the run.
+/// its statements, and those of earlier runs on the engine, are in scope. A READ has the reply that its query would
+/// have had when the reader was opened, whatever was written since, unless it is refused for the horizon, the reader or
+/// memory. Pruning is not visible: without the statements that pruned, or were refused for the horizon, all others have
+/// the same replies. Clause `holds`: if keys and references hold at every point of time in each copy of the reference
+/// model, they still do after the run.
 pub fn run_in<I: IntervalIndex, S: Source<O>, O: Sink, L: Listener, F: Form>(
     engine: &mut Engine<I>,
     source: &mut S,
@@ -124,11 +124,11 @@ pub fn run<I: IntervalIndex, S: Source<O>, O: Sink, L: Listener>(
 /// # Further guarantees
 ///
 /// Clause `points`: at each point of time, the run does what a reference model without periods does. This requires that
-/// its first statements create tables in scope, and that the later ones are in scope. Clause `unseen`: without the
-/// statements that pruned, or were refused for the horizon, all others have the same replies. Clause `readers`: a READ
-/// has the reply that its query would have had when the reader was opened, by this run or an earlier one, whatever was
-/// written since. A READ that is refused for the horizon, the reader or memory is excepted. Clause `holds`: if keys and
-/// references hold at every point of time in each copy of the reference model, they still do after the run.
+/// its statements, and those of earlier runs on the engine, are in scope. Clause `unseen`: without the statements that
+/// pruned, or were refused for the horizon, all others have the same replies. Clause `readers`: a READ has the reply
+/// that its query would have had when the reader was opened, by this run or an earlier one, whatever was written since.
+/// A READ that is refused for the horizon, the reader or memory is excepted. Clause `holds`: if keys and references
+/// hold at every point of time in each copy of the reference model, they still do after the run.
 pub fn run_bytes<I: IntervalIndex>(
     engine: &mut Engine<I>,
     script: &[u8],
