@@ -1,6 +1,6 @@
 -- The contents of a device, and how its failures are counted.
 use Rattle.std.specs.Prelude.{◌≡◌, ℕ, ◌-◌, ◌^◌, ◌<◌, ◌≤◌, ◌⊎◌, Bool, true, ◌&&◌, ◌==◌, not, List, ◌++◌, length}
-use Rattle.std.specs.Prelude.{Option, Some, Result, Ok, Err, OnOk, OnErr, MatchBool}
+use Rattle.std.specs.Prelude.{[], ◌∷◌, Option, Some, None, Result, Ok, Err, OnOk, OnErr, MatchBool}
 
 -- if the old contents are known, the new contents are the old ones followed by these bytes
 pub record Appends (old : Option (List ℕ)) (bytes : List ℕ) (new : Option (List ℕ)) : Type 0 where
@@ -35,3 +35,12 @@ pub record Pushes {T E : Type 0} (text : List ℕ) (result : Result T E) (old ne
   pub no_failure : OnOk result (now ≡ before)
   pub cut : OnErr result (AppendsBeginning old text new)
   pub failure : OnErr result (HasFailed before now)
+
+-- the texts that a sink was given to keep, with these after them, if they are known
+abbrev pub with_texts : List (List ℕ) → Option (List (List ℕ)) → Option (List (List ℕ))
+with_texts texts None = None
+with_texts texts (Some earlier) = Some (earlier ++ texts)
+
+-- the same with one text
+abbrev pub with_text : List ℕ → Option (List (List ℕ)) → Option (List (List ℕ))
+with_text text earlier = with_texts (text ∷ []) earlier

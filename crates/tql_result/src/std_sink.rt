@@ -1,5 +1,5 @@
 //! A sink over a standard library writer.
-ghost use Rattle.std.specs.Prelude.{◌≡◌, IsFalse, true};
+ghost use Rattle.std.specs.Prelude.{◌≡◌, None, IsFalse, true};
 ghost use Rattle.tql_result.specs.Devices.{HasFailed};
 
 use crate::device::DeviceFault;
@@ -55,6 +55,10 @@ impl<W: Write + Drop> Sink for StdSink<W> {
     ghost flushed = { λ s. s.flushed };
 
     ghost flushes_fail = { true };
+
+    ghost kept = { λ _. None };
+
+    fn keep(&mut self, _text: &[u8]) {}
 
     fn push(&mut self, bytes: &[u8]) -> Result<usize, DeviceFault> {
         self.flushed = false;

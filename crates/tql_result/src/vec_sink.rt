@@ -1,5 +1,5 @@
 //! A sink into a vector of bytes.
-ghost use Rattle.std.specs.Prelude.{◌≡◌, ◌≤◌, Some, [], length, take, IfOk, OnErr, IsErr, IsFalse, false};
+ghost use Rattle.std.specs.Prelude.{◌≡◌, ◌≤◌, Some, None, [], length, take, IfOk, OnErr, IsErr, IsFalse, false};
 ghost use Rattle.tql_result.specs.Devices.{Appends, Counts, is_failed_push};
 
 use crate::device::DeviceFault;
@@ -50,6 +50,10 @@ impl Sink for VecSink {
     ghost flushed = { λ s. s.flushed };
 
     ghost flushes_fail = { false };
+
+    ghost kept = { λ _. None };
+
+    fn keep(&mut self, _text: &[u8]) {}
 
     fn push(&mut self, bytes: &[u8]) -> Result<usize, DeviceFault>
         ensures within { IfOk result (λ n. n ≤ length bytes.now) }
