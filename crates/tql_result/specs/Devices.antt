@@ -28,14 +28,6 @@ abbrev pub is_failed_push : {E : Type 0} → Result ℕ E → ℕ → Bool
 is_failed_push (Ok n) len = (n == 0) && not (len == 0)
 is_failed_push (Err e) len = true
 
--- a text was pushed: the whole text without a failure, or a proper prefix of it followed by a failure
-pub record Pushes {T E : Type 0} (text : List ℕ) (result : Result T E) (old new : Option (List ℕ)) (before now : ℕ) :
-    Type 0 where
-  pub whole : OnOk result (Appends old text new)
-  pub no_failure : OnOk result (now ≡ before)
-  pub cut : OnErr result (AppendsBeginning old text new)
-  pub failure : OnErr result (HasFailed before now)
-
 -- the texts that a sink was given to keep, with these after them, if they are known
 abbrev pub with_texts : List (List ℕ) → Option (List (List ℕ)) → Option (List (List ℕ))
 with_texts texts None = None
@@ -44,3 +36,21 @@ with_texts texts (Some earlier) = Some (earlier ++ texts)
 -- the same with one text
 abbrev pub with_text : List ℕ → Option (List (List ℕ)) → Option (List (List ℕ))
 with_text text earlier = with_texts (text ∷ []) earlier
+
+-- what a sink holds: its bytes, and the texts that it was given to keep
+pub record Held : Type 0 where
+  pub bytes : Option (List ℕ)
+  pub kept : Option (List (List ℕ))
+
+-- the same for a sink whose type has these ghosts
+abbrev pub held : {S : Type 0} → (written : S → Option (List ℕ)) → (kept : S → Option (List (List ℕ))) → S → Held
+held written kept sink = record { bytes = written sink; kept = kept sink }
+
+-- a text was pushed: the whole text without a failure, or a proper prefix of it followed by a failure. A push keeps no
+-- text.
+pub record Pushes {T E : Type 0} (text : List ℕ) (result : Result T E) (old new : Held) (before now : ℕ) : Type 0 where
+  pub whole : OnOk result (Appends old.bytes text new.bytes)
+  pub no_failure : OnOk result (now ≡ before)
+  pub cut : OnErr result (AppendsBeginning old.bytes text new.bytes)
+  pub failure : OnErr result (HasFailed before now)
+  pub kept : new.kept ≡ old.kept

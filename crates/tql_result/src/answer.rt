@@ -1,6 +1,6 @@
 //! The answer of a run to a piece of a script, and its text.
 ghost use Rattle.tql_spec.specs.Text.{answer_text};
-ghost use Rattle.tql_result.specs.Devices.{Pushes};
+ghost use Rattle.tql_result.specs.Devices.{Pushes, held};
 ghost use Rattle.tql_result.specs.Replies.{answer_of, IsPrintableAnswer};
 
 use crate::device::DeviceFault;
@@ -31,7 +31,7 @@ impl Drop for Answer {
 pub fn write_answer<S: Sink>(sink: &mut S, answer: &Answer) -> Result<(), DeviceFault>
     requires { IsPrintableAnswer (answer_of answer.now) }
     ensures { Pushes (answer_text (answer_of answer.now)) result
-        (S.written sink.old) (S.written sink.new) (S.failures sink.old) (S.failures sink.new) }
+        (held S.written S.kept sink.old) (held S.written S.kept sink.new) (S.failures sink.old) (S.failures sink.new) }
 {
     match answer {
         Answer::Replied(reply) => write_reply(sink, reply),

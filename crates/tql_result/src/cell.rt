@@ -2,7 +2,7 @@
 ghost use Rattle.std.specs.Prelude.{◌↔◌, IsTrue};
 ghost use Rattle.tql_spec.specs.Text.{cell_text};
 ghost use Rattle.tql_value.specs.Views.{datum_of_view};
-ghost use Rattle.tql_result.specs.Devices.{Pushes};
+ghost use Rattle.tql_result.specs.Devices.{Pushes, held};
 ghost use Rattle.tql_value.specs.Points.{IsPrintable};
 
 use crate::device::DeviceFault;
@@ -31,7 +31,7 @@ pub fn is_printable(cell: View<'_>) -> bool
 pub fn write_cell<S: Sink>(sink: &mut S, cell: View<'_>) -> Result<(), DeviceFault>
     requires { IsPrintable (datum_of_view cell) }
     ensures { Pushes (cell_text (datum_of_view cell.entry)) result
-        (S.written sink.old) (S.written sink.new) (S.failures sink.old) (S.failures sink.new) }
+        (held S.written S.kept sink.old) (held S.written S.kept sink.new) (S.failures sink.old) (S.failures sink.new) }
 {
     match cell {
         View::Null => push_all(sink, b"NULL"),

@@ -3,7 +3,7 @@ ghost use Rattle.std.specs.Prelude.{◌≡◌, ◌||◌, ◌∷◌, ◌++◌, ma
 ghost use Rattle.std.specs.List.{flat_map, join_with_byte, list_all};
 ghost use Rattle.tql_spec.specs.Calendar.{is_digit as digit_of};
 ghost use Rattle.tql_spec.specs.Text.{is_upper as upper_of, is_bare as bare_of, heading_text, line};
-ghost use Rattle.tql_result.specs.Devices.{Pushes};
+ghost use Rattle.tql_result.specs.Devices.{Pushes, held};
 
 use crate::device::DeviceFault;
 use crate::pieces::push_all;
@@ -45,7 +45,7 @@ fn is_bare(name: &[u8]) -> bool
 /// Pushes a heading, bare or in quotes.
 fn push_heading<S: Sink>(sink: &mut S, name: &str) -> Result<(), DeviceFault>
     ensures { Pushes (heading_text name.now) result
-        (S.written sink.old) (S.written sink.new) (S.failures sink.old) (S.failures sink.new) }
+        (held S.written S.kept sink.old) (held S.written S.kept sink.new) (S.failures sink.old) (S.failures sink.new) }
 {
     if is_bare(name.as_bytes()) {
         push_all(sink, name.as_bytes())
@@ -57,7 +57,7 @@ fn push_heading<S: Sink>(sink: &mut S, name: &str) -> Result<(), DeviceFault>
 /// Pushes a heading that is not the first, after a bar as separator.
 fn push_next_heading<S: Sink>(sink: &mut S, name: &str) -> Result<(), DeviceFault>
     ensures { Pushes (124 ∷ heading_text name.now) result
-        (S.written sink.old) (S.written sink.new) (S.failures sink.old) (S.failures sink.new) }
+        (held S.written S.kept sink.old) (held S.written S.kept sink.new) (S.failures sink.old) (S.failures sink.new) }
 {
     push_all(sink, b"|")?;
     push_heading(sink, name)
@@ -66,7 +66,7 @@ fn push_next_heading<S: Sink>(sink: &mut S, name: &str) -> Result<(), DeviceFaul
 /// Pushes headings, each after a bar.
 fn push_next_headings<S: Sink>(sink: &mut S, names: &[String<Memory>]) -> Result<(), DeviceFault>
     ensures { Pushes (flat_map (λ n. 124 ∷ heading_text (string_bytes n)) names.now) result
-        (S.written sink.old) (S.written sink.new) (S.failures sink.old) (S.failures sink.new) }
+        (held S.written S.kept sink.old) (held S.written S.kept sink.new) (S.failures sink.old) (S.failures sink.new) }
 {
     for name in names {
         push_next_heading(sink, name.as_str())?;
@@ -77,7 +77,7 @@ fn push_next_headings<S: Sink>(sink: &mut S, names: &[String<Memory>]) -> Result
 /// Pushes headings, separated by bars.
 fn push_joined<S: Sink>(sink: &mut S, names: &[String<Memory>]) -> Result<(), DeviceFault>
     ensures { Pushes (join_with_byte 124 (map heading_text (map string_bytes names.now))) result
-        (S.written sink.old) (S.written sink.new) (S.failures sink.old) (S.failures sink.new) }
+        (held S.written S.kept sink.old) (held S.written S.kept sink.new) (S.failures sink.old) (S.failures sink.new) }
 {
     match names.split_first() {
         None => Ok(()),
@@ -91,7 +91,7 @@ fn push_joined<S: Sink>(sink: &mut S, names: &[String<Memory>]) -> Result<(), De
 /// Pushes the line of the headings.
 pub fn push_headings<S: Sink>(sink: &mut S, names: &[String<Memory>]) -> Result<(), DeviceFault>
     ensures { Pushes (line (join_with_byte 124 (map heading_text (map string_bytes names.now)))) result
-        (S.written sink.old) (S.written sink.new) (S.failures sink.old) (S.failures sink.new) }
+        (held S.written S.kept sink.old) (held S.written S.kept sink.new) (S.failures sink.old) (S.failures sink.new) }
 {
     push_joined(sink, names)?;
     push_all(sink, b"\n")

@@ -2,7 +2,7 @@
 ghost use Rattle.std.specs.Prelude.{◌≡◌, ◌+◌, ◌%◌, ◌<◌, ◌∷◌, ◌++◌};
 ghost use Rattle.std.specs.Fmt.{decimal, signed_decimal};
 ghost use Rattle.tql_spec.specs.Text.{padded, date_text};
-ghost use Rattle.tql_result.specs.Devices.{Pushes};
+ghost use Rattle.tql_result.specs.Devices.{Pushes, held};
 
 use crate::device::DeviceFault;
 use crate::pieces::push_all;
@@ -85,7 +85,7 @@ pub fn fraction_bytes(micros: u32) -> [u8; 7]
 /// Pushes a number in decimal digits.
 pub fn push_decimal<S: Sink>(sink: &mut S, n: u64) -> Result<(), DeviceFault>
     ensures { Pushes (decimal n) result
-        (S.written sink.old) (S.written sink.new) (S.failures sink.old) (S.failures sink.new) }
+        (held S.written S.kept sink.old) (held S.written S.kept sink.new) (S.failures sink.old) (S.failures sink.new) }
 {
     let mut buffer = Buffer::new();
     push_all(sink, buffer.format(n).as_bytes())
@@ -94,7 +94,7 @@ pub fn push_decimal<S: Sink>(sink: &mut S, n: u64) -> Result<(), DeviceFault>
 /// Pushes an integer in decimal digits, with `-` before a negative one.
 pub fn push_int<S: Sink>(sink: &mut S, n: i64) -> Result<(), DeviceFault>
     ensures { Pushes (signed_decimal n) result
-        (S.written sink.old) (S.written sink.new) (S.failures sink.old) (S.failures sink.new) }
+        (held S.written S.kept sink.old) (held S.written S.kept sink.new) (S.failures sink.old) (S.failures sink.new) }
 {
     let mut buffer = Buffer::new();
     push_all(sink, buffer.format(n).as_bytes())

@@ -1,5 +1,5 @@
 //! Pushes all of some bytes, in as many pushes as the sink needs.
-ghost use Rattle.tql_result.specs.Devices.{Pushes};
+ghost use Rattle.tql_result.specs.Devices.{Pushes, held};
 
 use crate::device::DeviceFault;
 use crate::sink::Sink;
@@ -8,7 +8,7 @@ use crate::sink::Sink;
 /// On failure, a prefix of the bytes has been pushed.
 pub fn push_all<S: Sink>(sink: &mut S, bytes: &[u8]) -> Result<(), DeviceFault>
     ensures { Pushes bytes.now result
-        (S.written sink.old) (S.written sink.new) (S.failures sink.old) (S.failures sink.new) }
+        (held S.written S.kept sink.old) (held S.written S.kept sink.new) (S.failures sink.old) (S.failures sink.new) }
 {
     let mut rest = bytes;
     while !rest.is_empty() {

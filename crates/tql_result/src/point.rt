@@ -4,7 +4,7 @@ ghost use Rattle.tql_spec.specs.Calendar.{moment_day, moment_micros};
 ghost use Rattle.tql_spec.specs.Datum.{Day};
 ghost use Rattle.tql_spec.specs.Text.{cell_text, date_text, time_text, fraction_text};
 ghost use Rattle.tql_value.specs.Points.{IsDay, IsMoment};
-ghost use Rattle.tql_result.specs.Devices.{Pushes};
+ghost use Rattle.tql_result.specs.Devices.{Pushes, held};
 
 use crate::device::DeviceFault;
 use crate::number::{clock_bytes, date_bytes, fraction_bytes};
@@ -16,7 +16,7 @@ use tql_value::calendar::{day_parts, moment_parts};
 pub fn push_day<S: Sink>(sink: &mut S, day: i64) -> Result<(), DeviceFault>
     requires { IsDay day }
     ensures { Pushes (cell_text (Day day)) result
-        (S.written sink.old) (S.written sink.new) (S.failures sink.old) (S.failures sink.new) }
+        (held S.written S.kept sink.old) (held S.written S.kept sink.new) (S.failures sink.old) (S.failures sink.new) }
 {
     let parts = day_parts(day);
     push_all(sink, &date_bytes(parts.year, parts.month, parts.day))
@@ -26,7 +26,7 @@ pub fn push_day<S: Sink>(sink: &mut S, day: i64) -> Result<(), DeviceFault>
 fn push_fraction<S: Sink>(sink: &mut S, micros: u32) -> Result<(), DeviceFault>
     requires { micros < 1000000 }
     ensures { Pushes (fraction_text micros) result
-        (S.written sink.old) (S.written sink.new) (S.failures sink.old) (S.failures sink.new) }
+        (held S.written S.kept sink.old) (held S.written S.kept sink.new) (S.failures sink.old) (S.failures sink.new) }
 {
     if micros == 0 {
         Ok(())
@@ -40,7 +40,7 @@ fn push_fraction<S: Sink>(sink: &mut S, micros: u32) -> Result<(), DeviceFault>
 pub fn push_moment<S: Sink>(sink: &mut S, parter: u8, moment: i64) -> Result<(), DeviceFault>
     requires { IsMoment moment }
     ensures { Pushes (date_text (moment_day moment) ++ parter ∷ time_text (moment_micros moment)) result
-        (S.written sink.old) (S.written sink.new) (S.failures sink.old) (S.failures sink.new) }
+        (held S.written S.kept sink.old) (held S.written S.kept sink.new) (S.failures sink.old) (S.failures sink.new) }
 {
     let parts = moment_parts(moment);
     push_all(sink, &date_bytes(parts.year, parts.month, parts.day))?;

@@ -2,7 +2,7 @@
 ghost use Rattle.std.specs.Prelude.{◌++◌, ◌↔◌, IsTrue, codes};
 ghost use Rattle.tql_spec.specs.Text.{verb_text, count_text, line, reply_text, wording};
 ghost use Rattle.tql_value.specs.Refusals.{refusal_of};
-ghost use Rattle.tql_result.specs.Devices.{Pushes};
+ghost use Rattle.tql_result.specs.Devices.{Pushes, held};
 ghost use Rattle.tql_result.specs.Replies.{plain_verb, reply_of, IsPrintableReply};
 
 use crate::device::DeviceFault;
@@ -16,7 +16,7 @@ use tql_value::refusal::Refusal;
 /// Pushes a blank and the count, if there is a count.
 fn push_count<S: Sink>(sink: &mut S, count: Option<u64>) -> Result<(), DeviceFault>
     ensures { Pushes (count_text count) result
-        (S.written sink.old) (S.written sink.new) (S.failures sink.old) (S.failures sink.new) }
+        (held S.written S.kept sink.old) (held S.written S.kept sink.new) (S.failures sink.old) (S.failures sink.new) }
 {
     match count {
         None => Ok(()),
@@ -30,7 +30,7 @@ fn push_count<S: Sink>(sink: &mut S, count: Option<u64>) -> Result<(), DeviceFau
 /// Pushes the reply line of a statement that was executed.
 fn push_done<S: Sink>(sink: &mut S, verb: Verb, count: Option<u64>) -> Result<(), DeviceFault>
     ensures { Pushes (line (verb_text (plain_verb verb) ++ count_text count)) result
-        (S.written sink.old) (S.written sink.new) (S.failures sink.old) (S.failures sink.new) }
+        (held S.written S.kept sink.old) (held S.written S.kept sink.new) (S.failures sink.old) (S.failures sink.new) }
 {
     push_all(sink, verb.text().as_bytes())?;
     push_count(sink, count)?;
@@ -40,7 +40,7 @@ fn push_done<S: Sink>(sink: &mut S, verb: Verb, count: Option<u64>) -> Result<()
 /// Pushes the line of a refusal.
 fn push_refusal<S: Sink>(sink: &mut S, refusal: Refusal) -> Result<(), DeviceFault>
     ensures { Pushes (line (codes "REFUSED " ++ wording (refusal_of refusal))) result
-        (S.written sink.old) (S.written sink.new) (S.failures sink.old) (S.failures sink.new) }
+        (held S.written S.kept sink.old) (held S.written S.kept sink.new) (S.failures sink.old) (S.failures sink.new) }
 {
     push_all(sink, b"REFUSED ")?;
     push_all(sink, refusal.text().as_bytes())?;
@@ -63,7 +63,7 @@ pub fn is_printable_reply(reply: &Reply) -> bool
 pub fn write_reply<S: Sink>(sink: &mut S, reply: &Reply) -> Result<(), DeviceFault>
     requires { IsPrintableReply (reply_of reply.now) }
     ensures { Pushes (reply_text (reply_of reply.now)) result
-        (S.written sink.old) (S.written sink.new) (S.failures sink.old) (S.failures sink.new) }
+        (held S.written S.kept sink.old) (held S.written S.kept sink.new) (S.failures sink.old) (S.failures sink.new) }
 {
     match reply {
         Reply::Done(verb, count) => push_done(sink, *verb, *count),

@@ -1,7 +1,7 @@
 //! Texts in quotes, with each quote in them doubled.
 ghost use Rattle.std.specs.Prelude.{◌≡◌, ◌<◌, ◌==◌, ◌∷◌, ◌++◌, IfSome, MatchOption, length, position};
 ghost use Rattle.tql_spec.specs.Text.{doubled, quoted};
-ghost use Rattle.tql_result.specs.Devices.{Pushes};
+ghost use Rattle.tql_result.specs.Devices.{Pushes, held};
 
 use crate::device::DeviceFault;
 use crate::pieces::push_all;
@@ -29,7 +29,7 @@ fn parts_at_quote(quote: u8, text: &[u8]) -> Option<(&[u8], &[u8])>
 /// Pushes a text with each quote doubled.
 fn push_doubled<S: Sink>(sink: &mut S, quote: u8, text: &[u8]) -> Result<(), DeviceFault>
     ensures { Pushes (doubled quote text.now) result
-        (S.written sink.old) (S.written sink.new) (S.failures sink.old) (S.failures sink.new) }
+        (held S.written S.kept sink.old) (held S.written S.kept sink.new) (S.failures sink.old) (S.failures sink.new) }
 {
     let mut rest = text;
     while let Some((front, back)) = parts_at_quote(quote, rest) {
@@ -43,7 +43,7 @@ fn push_doubled<S: Sink>(sink: &mut S, quote: u8, text: &[u8]) -> Result<(), Dev
 /// Pushes a text in quotes, with each quote in it doubled.
 pub fn push_quoted<S: Sink>(sink: &mut S, quote: u8, text: &[u8]) -> Result<(), DeviceFault>
     ensures { Pushes (quoted quote text.now) result
-        (S.written sink.old) (S.written sink.new) (S.failures sink.old) (S.failures sink.new) }
+        (held S.written S.kept sink.old) (held S.written S.kept sink.new) (S.failures sink.old) (S.failures sink.new) }
 {
     push_all(sink, &[quote])?;
     push_doubled(sink, quote, text)?;

@@ -4,7 +4,7 @@ ghost use Rattle.std.specs.List.{flat_map, join_with_byte};
 ghost use Rattle.tql_spec.specs.Machine.{Table};
 ghost use Rattle.tql_spec.specs.Text.{cell_text, row_text, line, reply_text};
 ghost use Rattle.tql_value.specs.Views.{datum_of_value, row_of};
-ghost use Rattle.tql_result.specs.Devices.{Pushes};
+ghost use Rattle.tql_result.specs.Devices.{Pushes, held};
 ghost use Rattle.tql_result.specs.Replies.{table_rows, headings_of};
 ghost use Rattle.tql_value.specs.Points.{IsPrintable, ArePrintable};
 
@@ -21,7 +21,7 @@ use tql_value::value::{ResultTable, Value};
 fn push_next_cell<S: Sink>(sink: &mut S, cell: &Value) -> Result<(), DeviceFault>
     requires { IsPrintable (datum_of_value cell.now) }
     ensures { Pushes (124 ∷ cell_text (datum_of_value cell.now)) result
-        (S.written sink.old) (S.written sink.new) (S.failures sink.old) (S.failures sink.new) }
+        (held S.written S.kept sink.old) (held S.written S.kept sink.new) (S.failures sink.old) (S.failures sink.new) }
 {
     push_all(sink, b"|")?;
     write_cell(sink, cell.view())
@@ -31,7 +31,7 @@ fn push_next_cell<S: Sink>(sink: &mut S, cell: &Value) -> Result<(), DeviceFault
 fn push_next_cells<S: Sink>(sink: &mut S, cells: &[Value]) -> Result<(), DeviceFault>
     requires { All (λ v. IsPrintable (datum_of_value v)) cells.now }
     ensures { Pushes (flat_map (λ v. 124 ∷ cell_text (datum_of_value v)) cells.now) result
-        (S.written sink.old) (S.written sink.new) (S.failures sink.old) (S.failures sink.new) }
+        (held S.written S.kept sink.old) (held S.written S.kept sink.new) (S.failures sink.old) (S.failures sink.new) }
 {
     for cell in cells {
         push_next_cell(sink, cell)?;
@@ -43,7 +43,7 @@ fn push_next_cells<S: Sink>(sink: &mut S, cells: &[Value]) -> Result<(), DeviceF
 fn push_joined<S: Sink>(sink: &mut S, cells: &[Value]) -> Result<(), DeviceFault>
     requires { All (λ v. IsPrintable (datum_of_value v)) cells.now }
     ensures { Pushes (join_with_byte 124 (map cell_text (row_of cells.now))) result
-        (S.written sink.old) (S.written sink.new) (S.failures sink.old) (S.failures sink.new) }
+        (held S.written S.kept sink.old) (held S.written S.kept sink.new) (S.failures sink.old) (S.failures sink.new) }
 {
     match cells.split_first() {
         None => Ok(()),
@@ -58,7 +58,7 @@ fn push_joined<S: Sink>(sink: &mut S, cells: &[Value]) -> Result<(), DeviceFault
 fn push_row<S: Sink>(sink: &mut S, cells: &[Value]) -> Result<(), DeviceFault>
     requires { All (λ v. IsPrintable (datum_of_value v)) cells.now }
     ensures { Pushes (row_text (row_of cells.now)) result
-        (S.written sink.old) (S.written sink.new) (S.failures sink.old) (S.failures sink.new) }
+        (held S.written S.kept sink.old) (held S.written S.kept sink.new) (S.failures sink.old) (S.failures sink.new) }
 {
     push_joined(sink, cells)?;
     push_all(sink, b"\n")
@@ -68,7 +68,7 @@ fn push_row<S: Sink>(sink: &mut S, cells: &[Value]) -> Result<(), DeviceFault>
 fn push_rows<S: Sink>(sink: &mut S, rows: &[Vec<Value, Memory>]) -> Result<(), DeviceFault>
     requires { All (λ r. All (λ v. IsPrintable (datum_of_value v)) r.items) rows.now }
     ensures { Pushes (flat_map (λ r. row_text (row_of r.items)) rows.now) result
-        (S.written sink.old) (S.written sink.new) (S.failures sink.old) (S.failures sink.new) }
+        (held S.written S.kept sink.old) (held S.written S.kept sink.new) (S.failures sink.old) (S.failures sink.new) }
 {
     for row in rows {
         push_row(sink, row.as_slice())?;
@@ -79,7 +79,7 @@ fn push_rows<S: Sink>(sink: &mut S, rows: &[Vec<Value, Memory>]) -> Result<(), D
 /// Pushes the line with the number of rows.
 fn push_row_count<S: Sink>(sink: &mut S, count: usize) -> Result<(), DeviceFault>
     ensures { Pushes (line (40 ∷ decimal count ++ codes " rows)")) result
-        (S.written sink.old) (S.written sink.new) (S.failures sink.old) (S.failures sink.new) }
+        (held S.written S.kept sink.old) (held S.written S.kept sink.new) (S.failures sink.old) (S.failures sink.new) }
 {
     push_all(sink, b"(")?;
     push_decimal(sink, count as u64)?;
@@ -113,7 +113,7 @@ pub fn is_printable_table(table: &ResultTable) -> bool
 pub fn write_table<S: Sink>(sink: &mut S, table: &ResultTable) -> Result<(), DeviceFault>
     requires { ArePrintable (table_rows table.now) }
     ensures { Pushes (reply_text (Table (headings_of table.now) (table_rows table.now))) result
-        (S.written sink.old) (S.written sink.new) (S.failures sink.old) (S.failures sink.new) }
+        (held S.written S.kept sink.old) (held S.written S.kept sink.new) (S.failures sink.old) (S.failures sink.new) }
 {
     let rows = table.rows.as_slice();
     push_headings(sink, table.headings.as_slice())?;

@@ -1,11 +1,12 @@
 -- The rest of a line of a box, starting at one of its columns.
 use Rattle.std.proofs.Common.{◌≡◌, ℕ, zero, suc, ◌+◌, ◌-◌, ◌<◌, List, [], ◌∷◌, ◌++◌, refl, sym, ◌∙◌, ap, map}
-use Rattle.std.proofs.Common.{drop, length, get_or, arith, append_assoc, subst, ◌≤◌, Option}
+use Rattle.std.proofs.Common.{drop, length, get_or, arith, append_assoc, subst, ◌≤◌}
 use Rattle.std.proofs.lemmas.List.{drop_more, drop_all}
 use Rattle.std.specs.List.{concat, flat_map}
 use Rattle.std.specs.Prelude.{Bool, true, false, codes}
 use Rattle.tql_spec.specs.Datum.{Datum}
 use Rattle.tql_spec.specs.Definition.{Name}
+use Rattle.tql_result.specs.Devices.{Held}
 use Rattle.tql_result.proofs.Pushing.{Sent}
 use Rattle.tql_result_box.specs.declared.layout.Layout.{Layout}
 use Rattle.tql_result_box.specs.Box.{laid, joined, bar, times, shown, value_width, filled}
@@ -75,7 +76,7 @@ times_two n t =
     ∙ sym (times_more (n + 2) t (omega arith))
 
 -- equal remainders can be replaced
-pub sent_as : {text rest others : List ℕ} {o n : Option (List ℕ)} {b k : ℕ} → rest ≡ others → Sent text rest o n b k
+pub sent_as : {text rest others : List ℕ} {o n : Held} {b k : ℕ} → rest ≡ others → Sent text rest o n b k
     → Sent text others o n b k
 sent_as {text} {o = o} {n = n} {b = b} {k = k} e s =
     let P : List ℕ → Type 0 = λ l. Sent text l o n b k in subst P e s

@@ -2,7 +2,7 @@
 ghost use Rattle.std.specs.Prelude.{◌≡◌, ◌⊎◌, List, [], All, map, string_bytes};
 ghost use Rattle.tql_value.specs.Points.{IsPrintable, ArePrintable};
 ghost use Rattle.tql_value.specs.Views.{datum_of_value, rows_of};
-ghost use Rattle.tql_result.specs.Devices.{Pushes};
+ghost use Rattle.tql_result.specs.Devices.{Pushes, held};
 ghost use Rattle.tql_result.specs.Replies.{table_rows, headings_of};
 ghost use Rattle.tql_result_box.specs.Box.{rows_end as end_of_count, count_line, head_lines, box_layouts, box_text};
 
@@ -25,7 +25,7 @@ fn rows_end(count: usize) -> &'static [u8]
 /// Pushes the line with the number of rows.
 fn push_count<S: Sink>(sink: &mut S, count: usize) -> Result<(), DeviceFault>
     ensures { Pushes (count_line count) result
-        (S.written sink.old) (S.written sink.new) (S.failures sink.old) (S.failures sink.new) }
+        (held S.written S.kept sink.old) (held S.written S.kept sink.new) (S.failures sink.old) (S.failures sink.new) }
 {
     push_all(sink, b"(")?;
     push_decimal(sink, count as u64)?;
@@ -39,7 +39,7 @@ fn push_head<S: Sink>(
     names: &[String<Memory>],
 ) -> Result<(), DeviceFault>
     ensures { Pushes (head_lines layouts.now (map string_bytes names.now)) result
-        (S.written sink.old) (S.written sink.new) (S.failures sink.old) (S.failures sink.new) }
+        (held S.written S.kept sink.old) (held S.written S.kept sink.new) (S.failures sink.old) (S.failures sink.new) }
 {
     push_rule(sink, "┌", "┬", "┐", layouts, names)?;
     push_headings(sink, layouts, names)?;
@@ -55,7 +55,7 @@ fn push_box<S: Sink>(
 ) -> Result<(), DeviceFault>
     requires { All (λ r. All (λ v. IsPrintable (datum_of_value v)) r.items) rows.now }
     ensures { Pushes (box_text layouts.now (map string_bytes names.now) (rows_of rows.now)) result
-        (S.written sink.old) (S.written sink.new) (S.failures sink.old) (S.failures sink.new) }
+        (held S.written S.kept sink.old) (held S.written S.kept sink.new) (S.failures sink.old) (S.failures sink.new) }
 {
     push_head(sink, layouts, names)?;
     push_rows(sink, layouts, rows)?;
@@ -82,7 +82,7 @@ pub fn write_box_table<S: Sink>(
     ensures { (layouts : List Layout)
         × ((layouts ≡ box_layouts (headings_of table.now) (table_rows table.now)) ⊎ (layouts ≡ []))
         × Pushes (box_text layouts (headings_of table.now) (table_rows table.now)) result
-        (S.written sink.old) (S.written sink.new) (S.failures sink.old) (S.failures sink.new) }
+        (held S.written S.kept sink.old) (held S.written S.kept sink.new) (S.failures sink.old) (S.failures sink.new) }
 {
     let names = table.headings.as_slice();
     let rows = table.rows.as_slice();

@@ -3,7 +3,7 @@ ghost use Rattle.std.specs.Prelude.{◌≡◌, ◌++◌, All, map, string_bytes}
 ghost use Rattle.std.specs.List.{concat, flat_map};
 ghost use Rattle.tql_value.specs.Views.{datum_of_value, datum_of_view, row_of};
 ghost use Rattle.tql_value.specs.Points.{IsPrintable};
-ghost use Rattle.tql_result.specs.Devices.{Pushes};
+ghost use Rattle.tql_result.specs.Devices.{Pushes, held};
 ghost use Rattle.tql_result_box.specs.Box.{times as times_of, filled, boxed, heading_box, value_box, laid, bar, joined};
 ghost use Rattle.tql_result_box.specs.Box.{heading_line, row_line, rule_line};
 
@@ -18,7 +18,7 @@ use tql_value::value::{Value, View};
 /// Pushes a piece `times` times.
 fn push_times<S: Sink>(sink: &mut S, piece: &str, times: usize) -> Result<(), DeviceFault>
     ensures { Pushes (times_of times piece.now) result
-        (S.written sink.old) (S.written sink.new) (S.failures sink.old) (S.failures sink.new) }
+        (held S.written S.kept sink.old) (held S.written S.kept sink.new) (S.failures sink.old) (S.failures sink.new) }
 {
     let mut left = times;
     'each: while left > 0 {
@@ -31,7 +31,7 @@ fn push_times<S: Sink>(sink: &mut S, piece: &str, times: usize) -> Result<(), De
 /// Pushes the part of the border above or below a column.
 fn push_bar<S: Sink>(sink: &mut S, width: usize) -> Result<(), DeviceFault>
     ensures { Pushes (bar width) result
-        (S.written sink.old) (S.written sink.new) (S.failures sink.old) (S.failures sink.new) }
+        (held S.written S.kept sink.old) (held S.written S.kept sink.new) (S.failures sink.old) (S.failures sink.new) }
 {
     push_all(sink, "──".as_bytes())?;
     push_times(sink, "─", width)
@@ -40,7 +40,7 @@ fn push_bar<S: Sink>(sink: &mut S, width: usize) -> Result<(), DeviceFault>
 /// Pushes `front`, then a bar.
 fn push_next_bar<S: Sink>(sink: &mut S, front: &[u8], width: usize) -> Result<(), DeviceFault>
     ensures { Pushes (front.now ++ bar width) result
-        (S.written sink.old) (S.written sink.new) (S.failures sink.old) (S.failures sink.new) }
+        (held S.written S.kept sink.old) (held S.written S.kept sink.new) (S.failures sink.old) (S.failures sink.new) }
 {
     push_all(sink, front)?;
     push_bar(sink, width)
@@ -54,7 +54,7 @@ fn push_bars<S: Sink>(
     names: &[String<Memory>],
 ) -> Result<(), DeviceFault>
     ensures { Pushes (joined cross.now (laid (λ l h. bar l.width) layouts.now (map string_bytes names.now))) result
-        (S.written sink.old) (S.written sink.new) (S.failures sink.old) (S.failures sink.new) }
+        (held S.written S.kept sink.old) (held S.written S.kept sink.new) (S.failures sink.old) (S.failures sink.new) }
 {
     let mut front: &[u8] = b"";
     let mut behind = layouts;
@@ -77,7 +77,7 @@ pub(crate) fn push_rule<S: Sink>(
     names: &[String<Memory>],
 ) -> Result<(), DeviceFault>
     ensures { Pushes (rule_line left.now cross.now right.now layouts.now (map string_bytes names.now)) result
-        (S.written sink.old) (S.written sink.new) (S.failures sink.old) (S.failures sink.new) }
+        (held S.written S.kept sink.old) (held S.written S.kept sink.new) (S.failures sink.old) (S.failures sink.new) }
 {
     push_all(sink, left.as_bytes())?;
     push_bars(sink, cross.as_bytes(), layouts, names)?;
@@ -94,7 +94,7 @@ fn push_filled<S: Sink>(
 ) -> Result<(), DeviceFault>
     requires { IsPrintable (datum_of_view cell) }
     ensures { Pushes (filled width is_right (datum_of_view cell.entry)) result
-        (S.written sink.old) (S.written sink.new) (S.failures sink.old) (S.failures sink.new) }
+        (held S.written S.kept sink.old) (held S.written S.kept sink.new) (S.failures sink.old) (S.failures sink.new) }
 {
     let blanks = width.saturating_sub(value_width(cell));
     if is_right {
@@ -115,7 +115,7 @@ fn push_boxed<S: Sink>(
 ) -> Result<(), DeviceFault>
     requires { IsPrintable (datum_of_view cell) }
     ensures { Pushes (boxed width is_right (datum_of_view cell.entry)) result
-        (S.written sink.old) (S.written sink.new) (S.failures sink.old) (S.failures sink.new) }
+        (held S.written S.kept sink.old) (held S.written S.kept sink.new) (S.failures sink.old) (S.failures sink.new) }
 {
     push_all(sink, "│ ".as_bytes())?;
     push_filled(sink, width, is_right, cell)?;
@@ -129,7 +129,7 @@ fn push_names<S: Sink>(
     names: &[String<Memory>],
 ) -> Result<(), DeviceFault>
     ensures { Pushes (concat (laid heading_box layouts.now (map string_bytes names.now))) result
-        (S.written sink.old) (S.written sink.new) (S.failures sink.old) (S.failures sink.new) }
+        (held S.written S.kept sink.old) (held S.written S.kept sink.new) (S.failures sink.old) (S.failures sink.new) }
 {
     let mut behind = layouts;
     for name in names {
@@ -147,7 +147,7 @@ pub(crate) fn push_headings<S: Sink>(
     names: &[String<Memory>],
 ) -> Result<(), DeviceFault>
     ensures { Pushes (heading_line layouts.now (map string_bytes names.now)) result
-        (S.written sink.old) (S.written sink.new) (S.failures sink.old) (S.failures sink.new) }
+        (held S.written S.kept sink.old) (held S.written S.kept sink.new) (S.failures sink.old) (S.failures sink.new) }
 {
     push_names(sink, layouts, names)?;
     push_all(sink, "│\n".as_bytes())
@@ -157,7 +157,7 @@ pub(crate) fn push_headings<S: Sink>(
 fn push_cells<S: Sink>(sink: &mut S, layouts: &[Layout], cells: &[Value]) -> Result<(), DeviceFault>
     requires { All (λ v. IsPrintable (datum_of_value v)) cells.now }
     ensures { Pushes (concat (laid value_box layouts.now (row_of cells.now))) result
-        (S.written sink.old) (S.written sink.new) (S.failures sink.old) (S.failures sink.new) }
+        (held S.written S.kept sink.old) (held S.written S.kept sink.new) (S.failures sink.old) (S.failures sink.new) }
 {
     let mut behind = layouts;
     for cell in cells {
@@ -177,7 +177,7 @@ fn push_cells<S: Sink>(sink: &mut S, layouts: &[Layout], cells: &[Value]) -> Res
 fn push_row<S: Sink>(sink: &mut S, layouts: &[Layout], cells: &[Value]) -> Result<(), DeviceFault>
     requires { All (λ v. IsPrintable (datum_of_value v)) cells.now }
     ensures { Pushes (row_line layouts.now (row_of cells.now)) result
-        (S.written sink.old) (S.written sink.new) (S.failures sink.old) (S.failures sink.new) }
+        (held S.written S.kept sink.old) (held S.written S.kept sink.new) (S.failures sink.old) (S.failures sink.new) }
 {
     push_cells(sink, layouts, cells)?;
     push_all(sink, "│\n".as_bytes())
@@ -191,7 +191,7 @@ pub(crate) fn push_rows<S: Sink>(
 ) -> Result<(), DeviceFault>
     requires { All (λ r. All (λ v. IsPrintable (datum_of_value v)) r.items) rows.now }
     ensures { Pushes (flat_map (λ r. row_line layouts.now (row_of r.items)) rows.now) result
-        (S.written sink.old) (S.written sink.new) (S.failures sink.old) (S.failures sink.new) }
+        (held S.written S.kept sink.old) (held S.written S.kept sink.new) (S.failures sink.old) (S.failures sink.new) }
 {
     for row in rows {
         push_row(sink, layouts, row.as_slice())?;

@@ -9,7 +9,7 @@ ghost use Rattle.tql_result_box.specs.Box.{control_escape, shown_character, char
 ghost use Rattle.tql_result_box.specs.Box.{text_width as text_width_of, shown, value_width as value_width_of};
 ghost use Rattle.tql_value.specs.Views.{datum_of_view};
 ghost use Rattle.tql_value.specs.Points.{IsMoment, IsPrintable};
-ghost use Rattle.tql_result.specs.Devices.{Pushes};
+ghost use Rattle.tql_result.specs.Devices.{Pushes, held};
 
 use itoa::Buffer;
 use tql_result::device::DeviceFault;
@@ -51,7 +51,7 @@ fn escape_bytes(number: u8) -> [u8; 6]
 fn push_control<S: Sink>(sink: &mut S, character: char) -> Result<(), DeviceFault>
     requires { is_control character ≡ true }
     ensures { Pushes (shown_character character) result
-        (S.written sink.old) (S.written sink.new) (S.failures sink.old) (S.failures sink.new) }
+        (held S.written S.kept sink.old) (held S.written S.kept sink.new) (S.failures sink.old) (S.failures sink.new) }
 {
     match character {
         '\n' => push_all(sink, b"\\n"),
@@ -64,7 +64,7 @@ fn push_control<S: Sink>(sink: &mut S, character: char) -> Result<(), DeviceFaul
 /// Pushes a character as shown: itself, or the escape of a control character.
 fn push_character<S: Sink>(sink: &mut S, character: char) -> Result<(), DeviceFault>
     ensures { Pushes (shown_character character) result
-        (S.written sink.old) (S.written sink.new) (S.failures sink.old) (S.failures sink.new) }
+        (held S.written S.kept sink.old) (held S.written S.kept sink.new) (S.failures sink.old) (S.failures sink.new) }
 {
     if character.is_control() {
         push_control(sink, character)
@@ -76,7 +76,7 @@ fn push_character<S: Sink>(sink: &mut S, character: char) -> Result<(), DeviceFa
 /// Pushes a text as shown, with each control character escaped.
 fn push_text<S: Sink>(sink: &mut S, text: &str) -> Result<(), DeviceFault>
     ensures { Pushes (visible text.now) result
-        (S.written sink.old) (S.written sink.new) (S.failures sink.old) (S.failures sink.new) }
+        (held S.written S.kept sink.old) (held S.written S.kept sink.new) (S.failures sink.old) (S.failures sink.new) }
 {
     for character in text.chars() {
         push_character(sink, character)?;
@@ -88,7 +88,7 @@ fn push_text<S: Sink>(sink: &mut S, text: &str) -> Result<(), DeviceFault>
 pub(crate) fn push_shown<S: Sink>(sink: &mut S, cell: View<'_>) -> Result<(), DeviceFault>
     requires { IsPrintable (datum_of_view cell) }
     ensures { Pushes (shown (datum_of_view cell.entry)) result
-        (S.written sink.old) (S.written sink.new) (S.failures sink.old) (S.failures sink.new) }
+        (held S.written S.kept sink.old) (held S.written S.kept sink.new) (S.failures sink.old) (S.failures sink.new) }
 {
     match cell {
         View::Null => push_all(sink, b"NULL"),

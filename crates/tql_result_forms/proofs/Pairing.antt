@@ -1,6 +1,6 @@
 -- The members of a row, starting at one of its columns.
 use Rattle.std.proofs.Common.{◌≡◌, ℕ, ◌+◌, ◌<◌, List, [], ◌∷◌, ◌++◌, sym, ◌∙◌, ap, subst, map, refl, drop}
-use Rattle.std.proofs.Common.{length, get_or, arith, inl, inr, Option}
+use Rattle.std.proofs.Common.{length, get_or, arith, inl, inr}
 use Rattle.std.proofs.lemmas.Bool.{cases_lt}
 use Rattle.std.proofs.lemmas.List.{drop_more, drop_all}
 use Rattle.std.specs.Prelude.{min}
@@ -8,6 +8,7 @@ use Rattle.tql_spec.specs.Datum.{Datum}
 use Rattle.tql_spec.specs.Definition.{Name}
 use Rattle.tql_result_laws.specs.Json.{member, json_value}
 use Rattle.tql_result_laws.specs.Jsonl.{row_members}
+use Rattle.tql_result.specs.Devices.{Held}
 use Rattle.tql_result.proofs.Pushing.{Sent}
 use Rattle.tql_result_forms.proofs.Parting.{parted_after, parted_after_more}
 
@@ -37,7 +38,7 @@ members_end f g names cells i e = elim (cases_lt i (length names)) [
 ]
 
 -- equal remainders can be replaced
-pub sent_as : {text rest others : List ℕ} {o n : Option (List ℕ)} {b k : ℕ} → rest ≡ others → Sent text rest o n b k
+pub sent_as : {text rest others : List ℕ} {o n : Held} {b k : ℕ} → rest ≡ others → Sent text rest o n b k
     → Sent text others o n b k
 sent_as {text} {o = o} {n = n} {b = b} {k = k} e s =
     let P : List ℕ → Type 0 = λ l. Sent text l o n b k in subst P e s

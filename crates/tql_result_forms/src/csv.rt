@@ -5,7 +5,7 @@ ghost use Rattle.tql_result_laws.specs.Csv.{is_sign as sign_of, is_quoted as quo
 ghost use Rattle.tql_result_laws.specs.Csv.{csv_text};
 ghost use Rattle.tql_value.specs.Views.{datum_of_value, datum_of_view, row_of};
 ghost use Rattle.tql_value.specs.Points.{IsPrintable, ArePrintable};
-ghost use Rattle.tql_result.specs.Devices.{Pushes};
+ghost use Rattle.tql_result.specs.Devices.{Pushes, held};
 ghost use Rattle.tql_result.specs.Replies.{table_rows, headings_of};
 
 use tql_memory::Memory;
@@ -42,7 +42,7 @@ fn is_quoted(text: &[u8]) -> bool
 /// Pushes a text as a field.
 fn push_text<S: Sink>(sink: &mut S, text: &[u8]) -> Result<(), DeviceFault>
     ensures { Pushes (text_field text.now) result
-        (S.written sink.old) (S.written sink.new) (S.failures sink.old) (S.failures sink.new) }
+        (held S.written S.kept sink.old) (held S.written S.kept sink.new) (S.failures sink.old) (S.failures sink.new) }
 {
     if is_quoted(text) {
         push_quoted(sink, b'"', text)
@@ -55,7 +55,7 @@ fn push_text<S: Sink>(sink: &mut S, text: &[u8]) -> Result<(), DeviceFault>
 fn push_field<S: Sink>(sink: &mut S, cell: View<'_>) -> Result<(), DeviceFault>
     requires { IsPrintable (datum_of_view cell) }
     ensures { Pushes (field (datum_of_view cell.entry)) result
-        (S.written sink.old) (S.written sink.new) (S.failures sink.old) (S.failures sink.new) }
+        (held S.written S.kept sink.old) (held S.written S.kept sink.new) (S.failures sink.old) (S.failures sink.new) }
 {
     match cell {
         View::Null => Ok(()),
@@ -69,7 +69,7 @@ fn push_field<S: Sink>(sink: &mut S, cell: View<'_>) -> Result<(), DeviceFault>
 /// Pushes a heading that is not the first, after a comma.
 fn push_next_heading<S: Sink>(sink: &mut S, name: &str) -> Result<(), DeviceFault>
     ensures { Pushes (44 ∷ text_field name.now) result
-        (S.written sink.old) (S.written sink.new) (S.failures sink.old) (S.failures sink.new) }
+        (held S.written S.kept sink.old) (held S.written S.kept sink.new) (S.failures sink.old) (S.failures sink.new) }
 {
     push_all(sink, b",")?;
     push_text(sink, name.as_bytes())
@@ -78,7 +78,7 @@ fn push_next_heading<S: Sink>(sink: &mut S, name: &str) -> Result<(), DeviceFaul
 /// Pushes headings, each after a comma.
 fn push_next_headings<S: Sink>(sink: &mut S, names: &[String<Memory>]) -> Result<(), DeviceFault>
     ensures { Pushes (flat_map (λ n. 44 ∷ text_field (string_bytes n)) names.now) result
-        (S.written sink.old) (S.written sink.new) (S.failures sink.old) (S.failures sink.new) }
+        (held S.written S.kept sink.old) (held S.written S.kept sink.new) (S.failures sink.old) (S.failures sink.new) }
 {
     for name in names {
         push_next_heading(sink, name.as_str())?;
@@ -89,7 +89,7 @@ fn push_next_headings<S: Sink>(sink: &mut S, names: &[String<Memory>]) -> Result
 /// Pushes headings, separated by commas.
 fn push_joined_headings<S: Sink>(sink: &mut S, names: &[String<Memory>]) -> Result<(), DeviceFault>
     ensures { Pushes (join_with_byte 44 (map text_field (map string_bytes names.now))) result
-        (S.written sink.old) (S.written sink.new) (S.failures sink.old) (S.failures sink.new) }
+        (held S.written S.kept sink.old) (held S.written S.kept sink.new) (S.failures sink.old) (S.failures sink.new) }
 {
     match names.split_first() {
         None => Ok(()),
@@ -103,7 +103,7 @@ fn push_joined_headings<S: Sink>(sink: &mut S, names: &[String<Memory>]) -> Resu
 /// Pushes the line of the headings.
 fn push_headings<S: Sink>(sink: &mut S, names: &[String<Memory>]) -> Result<(), DeviceFault>
     ensures { Pushes (csv_line (map text_field (map string_bytes names.now))) result
-        (S.written sink.old) (S.written sink.new) (S.failures sink.old) (S.failures sink.new) }
+        (held S.written S.kept sink.old) (held S.written S.kept sink.new) (S.failures sink.old) (S.failures sink.new) }
 {
     push_joined_headings(sink, names)?;
     push_all(sink, b"\r\n")
@@ -113,7 +113,7 @@ fn push_headings<S: Sink>(sink: &mut S, names: &[String<Memory>]) -> Result<(), 
 fn push_next_field<S: Sink>(sink: &mut S, cell: &Value) -> Result<(), DeviceFault>
     requires { IsPrintable (datum_of_value cell.now) }
     ensures { Pushes (44 ∷ field (datum_of_value cell.now)) result
-        (S.written sink.old) (S.written sink.new) (S.failures sink.old) (S.failures sink.new) }
+        (held S.written S.kept sink.old) (held S.written S.kept sink.new) (S.failures sink.old) (S.failures sink.new) }
 {
     push_all(sink, b",")?;
     push_field(sink, cell.view())
@@ -123,7 +123,7 @@ fn push_next_field<S: Sink>(sink: &mut S, cell: &Value) -> Result<(), DeviceFaul
 fn push_next_fields<S: Sink>(sink: &mut S, cells: &[Value]) -> Result<(), DeviceFault>
     requires { All (λ v. IsPrintable (datum_of_value v)) cells.now }
     ensures { Pushes (flat_map (λ v. 44 ∷ field (datum_of_value v)) cells.now) result
-        (S.written sink.old) (S.written sink.new) (S.failures sink.old) (S.failures sink.new) }
+        (held S.written S.kept sink.old) (held S.written S.kept sink.new) (S.failures sink.old) (S.failures sink.new) }
 {
     for cell in cells {
         push_next_field(sink, cell)?;
@@ -135,7 +135,7 @@ fn push_next_fields<S: Sink>(sink: &mut S, cells: &[Value]) -> Result<(), Device
 fn push_joined_fields<S: Sink>(sink: &mut S, cells: &[Value]) -> Result<(), DeviceFault>
     requires { All (λ v. IsPrintable (datum_of_value v)) cells.now }
     ensures { Pushes (join_with_byte 44 (map field (row_of cells.now))) result
-        (S.written sink.old) (S.written sink.new) (S.failures sink.old) (S.failures sink.new) }
+        (held S.written S.kept sink.old) (held S.written S.kept sink.new) (S.failures sink.old) (S.failures sink.new) }
 {
     match cells.split_first() {
         None => Ok(()),
@@ -150,7 +150,7 @@ fn push_joined_fields<S: Sink>(sink: &mut S, cells: &[Value]) -> Result<(), Devi
 fn push_row<S: Sink>(sink: &mut S, cells: &[Value]) -> Result<(), DeviceFault>
     requires { All (λ v. IsPrintable (datum_of_value v)) cells.now }
     ensures { Pushes (csv_line (map field (row_of cells.now))) result
-        (S.written sink.old) (S.written sink.new) (S.failures sink.old) (S.failures sink.new) }
+        (held S.written S.kept sink.old) (held S.written S.kept sink.new) (S.failures sink.old) (S.failures sink.new) }
 {
     push_joined_fields(sink, cells)?;
     push_all(sink, b"\r\n")
@@ -160,7 +160,7 @@ fn push_row<S: Sink>(sink: &mut S, cells: &[Value]) -> Result<(), DeviceFault>
 fn push_rows<S: Sink>(sink: &mut S, rows: &[Vec<Value, Memory>]) -> Result<(), DeviceFault>
     requires { All (λ r. All (λ v. IsPrintable (datum_of_value v)) r.items) rows.now }
     ensures { Pushes (flat_map (λ r. csv_line (map field (row_of r.items))) rows.now) result
-        (S.written sink.old) (S.written sink.new) (S.failures sink.old) (S.failures sink.new) }
+        (held S.written S.kept sink.old) (held S.written S.kept sink.new) (S.failures sink.old) (S.failures sink.new) }
 {
     for row in rows {
         push_row(sink, row.as_slice())?;
@@ -175,7 +175,7 @@ fn push_rows<S: Sink>(sink: &mut S, rows: &[Vec<Value, Memory>]) -> Result<(), D
 pub fn write_csv_table<S: Sink>(sink: &mut S, table: &ResultTable) -> Result<(), DeviceFault>
     requires { ArePrintable (table_rows table.now) }
     ensures { Pushes (csv_text (headings_of table.now) (table_rows table.now)) result
-        (S.written sink.old) (S.written sink.new) (S.failures sink.old) (S.failures sink.new) }
+        (held S.written S.kept sink.old) (held S.written S.kept sink.new) (S.failures sink.old) (S.failures sink.new) }
 {
     push_headings(sink, table.headings.as_slice())?;
     push_rows(sink, table.rows.as_slice())

@@ -2,7 +2,7 @@
 ghost use Rattle.std.specs.Prelude.{◌≡◌, ◌<◌, ◌||◌, ◌==◌, ◌∷◌, ◌++◌, nat_lt, IfSome, MatchOption, length, position};
 ghost use Rattle.std.specs.List.{flat_map};
 ghost use Rattle.tql_result_laws.specs.Json.{hex_digit as hex_digit_of, control, escaped, string};
-ghost use Rattle.tql_result.specs.Devices.{Pushes};
+ghost use Rattle.tql_result.specs.Devices.{Pushes, held};
 ghost use Rattle.tql_result_forms.specs.Escapes.{has_escape as escape_of};
 
 use tql_result::device::DeviceFault;
@@ -64,7 +64,7 @@ fn parts_at_escape(text: &[u8]) -> Option<(&[u8], u8, &[u8])>
 /// Pushes a byte of a string, escaped if necessary.
 fn push_escaped<S: Sink>(sink: &mut S, byte: u8) -> Result<(), DeviceFault>
     ensures { Pushes (escaped byte) result
-        (S.written sink.old) (S.written sink.new) (S.failures sink.old) (S.failures sink.new) }
+        (held S.written S.kept sink.old) (held S.written S.kept sink.new) (S.failures sink.old) (S.failures sink.new) }
 {
     if byte == b'"' || byte == b'\\' {
         push_all(sink, &[b'\\', byte])
@@ -78,7 +78,7 @@ fn push_escaped<S: Sink>(sink: &mut S, byte: u8) -> Result<(), DeviceFault>
 /// Pushes the bytes of a string, escaped where necessary.
 fn push_escapes<S: Sink>(sink: &mut S, text: &[u8]) -> Result<(), DeviceFault>
     ensures { Pushes (flat_map escaped text.now) result
-        (S.written sink.old) (S.written sink.new) (S.failures sink.old) (S.failures sink.new) }
+        (held S.written S.kept sink.old) (held S.written S.kept sink.new) (S.failures sink.old) (S.failures sink.new) }
 {
     let mut rest = text;
     while let Some((front, byte, back)) = parts_at_escape(rest) {
@@ -92,7 +92,7 @@ fn push_escapes<S: Sink>(sink: &mut S, text: &[u8]) -> Result<(), DeviceFault>
 /// Pushes a text as a JSON string.
 pub(crate) fn push_string<S: Sink>(sink: &mut S, text: &[u8]) -> Result<(), DeviceFault>
     ensures { Pushes (string text.now) result
-        (S.written sink.old) (S.written sink.new) (S.failures sink.old) (S.failures sink.new) }
+        (held S.written S.kept sink.old) (held S.written S.kept sink.new) (S.failures sink.old) (S.failures sink.new) }
 {
     push_all(sink, b"\"")?;
     push_escapes(sink, text)?;

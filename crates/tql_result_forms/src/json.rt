@@ -9,7 +9,7 @@ ghost use Rattle.tql_spec.specs.Machine.{Refused};
 ghost use Rattle.tql_spec.specs.Text.{wording};
 ghost use Rattle.tql_value.specs.Refusals.{refusal_of};
 ghost use Rattle.tql_value.specs.Points.{ArePrintable};
-ghost use Rattle.tql_result.specs.Devices.{Pushes};
+ghost use Rattle.tql_result.specs.Devices.{Pushes, held};
 ghost use Rattle.tql_result.specs.Replies.{plain_verb, table_rows, headings_of, answer_of, reply_of};
 ghost use Rattle.tql_result.specs.Replies.{IsPrintableReply, IsPrintableAnswer};
 
@@ -69,7 +69,7 @@ fn words(refusal: Refusal) -> &'static [u8]
 fn push_place<S: Sink>(sink: &mut S, statement: u64, line: u64) -> Result<(), DeviceFault>
     ensures { Pushes (123 ∷ member (codes "statement") (decimal statement)
         ++ 44 ∷ 32 ∷ member (codes "line") (decimal line)) result
-        (S.written sink.old) (S.written sink.new) (S.failures sink.old) (S.failures sink.new) }
+        (held S.written S.kept sink.old) (held S.written S.kept sink.new) (S.failures sink.old) (S.failures sink.new) }
 {
     push_all(sink, b"{\"statement\": ")?;
     push_decimal(sink, statement)?;
@@ -80,7 +80,7 @@ fn push_place<S: Sink>(sink: &mut S, statement: u64, line: u64) -> Result<(), De
 /// Pushes a comma and the name of a member.
 fn push_name<S: Sink>(sink: &mut S, name: &[u8]) -> Result<(), DeviceFault>
     ensures { Pushes (44 ∷ 32 ∷ (string name.now ++ (58 ∷ 32 ∷ []))) result
-        (S.written sink.old) (S.written sink.new) (S.failures sink.old) (S.failures sink.new) }
+        (held S.written S.kept sink.old) (held S.written S.kept sink.new) (S.failures sink.old) (S.failures sink.new) }
 {
     push_all(sink, b", ")?;
     push_string(sink, name)?;
@@ -90,7 +90,7 @@ fn push_name<S: Sink>(sink: &mut S, name: &[u8]) -> Result<(), DeviceFault>
 /// Pushes a comma, a name and a number, if the number is known.
 fn push_number<S: Sink>(sink: &mut S, name: &[u8], number: Option<u64>) -> Result<(), DeviceFault>
     ensures { Pushes (flat_map (λ m. 44 ∷ 32 ∷ m) (known name.now decimal number [])) result
-        (S.written sink.old) (S.written sink.new) (S.failures sink.old) (S.failures sink.new) }
+        (held S.written S.kept sink.old) (held S.written S.kept sink.new) (S.failures sink.old) (S.failures sink.new) }
 {
     match number {
         None => Ok(()),
@@ -104,7 +104,8 @@ fn push_number<S: Sink>(sink: &mut S, name: &[u8], number: Option<u64>) -> Resul
 /// Pushes a comma, a name and a text, if the text is known.
 fn push_text<S: Sink>(sink: &mut S, name: &[u8], text: Option<&str>) -> Result<(), DeviceFault>
     ensures { Pushes (flat_map (λ m. 44 ∷ 32 ∷ m) (known name.now string (option_map (λ s. s.now) text.entry) []))
-        result (S.written sink.old) (S.written sink.new) (S.failures sink.old) (S.failures sink.new) }
+        result (held S.written S.kept sink.old) (held S.written S.kept sink.new)
+        (S.failures sink.old) (S.failures sink.new) }
 {
     match text {
         None => Ok(()),
@@ -122,7 +123,7 @@ fn push_columns<S: Sink>(
 ) -> Result<(), DeviceFault>
     ensures { Pushes (flat_map (λ m. 44 ∷ 32 ∷ m)
         (known (codes "columns") name_array (option_map (λ l. map string_bytes l.now) columns.entry) [])) result
-        (S.written sink.old) (S.written sink.new) (S.failures sink.old) (S.failures sink.new) }
+        (held S.written S.kept sink.old) (held S.written S.kept sink.new) (S.failures sink.old) (S.failures sink.new) }
 {
     match columns {
         None => Ok(()),
@@ -136,7 +137,7 @@ fn push_columns<S: Sink>(
 /// Pushes the members of the reply to a statement that was executed.
 fn push_done<S: Sink>(sink: &mut S, verb: Verb, count: Option<u64>) -> Result<(), DeviceFault>
     ensures { Pushes (flat_map (λ m. 44 ∷ 32 ∷ m) (done_members (plain_verb verb) count)) result
-        (S.written sink.old) (S.written sink.new) (S.failures sink.old) (S.failures sink.new) }
+        (held S.written S.kept sink.old) (held S.written S.kept sink.new) (S.failures sink.old) (S.failures sink.new) }
 {
     push_all(sink, b", \"reply\": ")?;
     push_string(sink, verb.text().as_bytes())?;
@@ -148,7 +149,7 @@ fn push_table<S: Sink>(sink: &mut S, table: &ResultTable) -> Result<(), DeviceFa
     requires { ArePrintable (table_rows table.now) }
     ensures { Pushes (flat_map (λ m. 44 ∷ 32 ∷ m)
         (table_members (headings_of table.now) (table_rows table.now))) result
-        (S.written sink.old) (S.written sink.new) (S.failures sink.old) (S.failures sink.new) }
+        (held S.written S.kept sink.old) (held S.written S.kept sink.new) (S.failures sink.old) (S.failures sink.new) }
 {
     push_all(sink, b", \"columns\": ")?;
     push_names(sink, table.headings.as_slice())?;
@@ -159,7 +160,7 @@ fn push_table<S: Sink>(sink: &mut S, table: &ResultTable) -> Result<(), DeviceFa
 /// Pushes the number and the words of a refusal.
 fn push_words<S: Sink>(sink: &mut S, refusal: Refusal) -> Result<(), DeviceFault>
     ensures { Pushes (flat_map (λ m. 44 ∷ 32 ∷ m) (refusal_members (refusal_of refusal))) result
-        (S.written sink.old) (S.written sink.new) (S.failures sink.old) (S.failures sink.new) }
+        (held S.written S.kept sink.old) (held S.written S.kept sink.new) (S.failures sink.old) (S.failures sink.new) }
 {
     push_all(sink, b", \"refused\": ")?;
     push_decimal(sink, u64::from(refusal.number()))?;
@@ -170,7 +171,7 @@ fn push_words<S: Sink>(sink: &mut S, refusal: Refusal) -> Result<(), DeviceFault
 /// Pushes the place of a fault, what is wrong there, and what to write instead, as far as they are known.
 fn push_fault_place<S: Sink>(sink: &mut S, diagnostic: Diagnostic<'_>) -> Result<(), DeviceFault>
     ensures { Pushes (flat_map (λ m. 44 ∷ 32 ∷ m) (place_members (fault_of diagnostic.entry))) result
-        (S.written sink.old) (S.written sink.new) (S.failures sink.old) (S.failures sink.new) }
+        (held S.written S.kept sink.old) (held S.written S.kept sink.new) (S.failures sink.old) (S.failures sink.new) }
 {
     push_number(sink, b"column", diagnostic.column)?;
     push_text(sink, b"detail", diagnostic.detail)?;
@@ -180,7 +181,7 @@ fn push_fault_place<S: Sink>(sink: &mut S, diagnostic: Diagnostic<'_>) -> Result
 /// Pushes the constraint that a row violates, the columns, and the number of the row, as far as they are known.
 fn push_fault_row<S: Sink>(sink: &mut S, diagnostic: Diagnostic<'_>) -> Result<(), DeviceFault>
     ensures { Pushes (flat_map (λ m. 44 ∷ 32 ∷ m) (constraint_members (fault_of diagnostic.entry))) result
-        (S.written sink.old) (S.written sink.new) (S.failures sink.old) (S.failures sink.new) }
+        (held S.written S.kept sink.old) (held S.written S.kept sink.new) (S.failures sink.old) (S.failures sink.new) }
 {
     push_text(sink, b"constraint", diagnostic.constraint)?;
     push_columns(sink, diagnostic.columns)?;
@@ -195,7 +196,7 @@ fn push_refusal<S: Sink>(
 ) -> Result<(), DeviceFault>
     ensures { Pushes (flat_map (λ m. 44 ∷ 32 ∷ m)
         (members_of (fault_of diagnostic.entry) (Replied (Refused (refusal_of refusal))))) result
-        (S.written sink.old) (S.written sink.new) (S.failures sink.old) (S.failures sink.new) }
+        (held S.written S.kept sink.old) (held S.written S.kept sink.new) (S.failures sink.old) (S.failures sink.new) }
 {
     push_words(sink, refusal)?;
     push_fault_place(sink, diagnostic)?;
@@ -211,7 +212,7 @@ fn push_reply<S: Sink>(
     requires { IsPrintableReply (reply_of reply.now) }
     ensures { Pushes (flat_map (λ m. 44 ∷ 32 ∷ m)
         (members_of (fault_of diagnostic.entry) (Replied (reply_of reply.now)))) result
-        (S.written sink.old) (S.written sink.new) (S.failures sink.old) (S.failures sink.new) }
+        (held S.written S.kept sink.old) (held S.written S.kept sink.new) (S.failures sink.old) (S.failures sink.new) }
 {
     match reply {
         Reply::Done(verb, count) => push_done(sink, *verb, *count),
@@ -229,7 +230,7 @@ fn push_answer<S: Sink>(
     requires { IsPrintableAnswer (answer_of answer.now) }
     ensures { Pushes (flat_map (λ m. 44 ∷ 32 ∷ m)
         (members_of (fault_of diagnostic.entry) (answer_of answer.now))) result
-        (S.written sink.old) (S.written sink.new) (S.failures sink.old) (S.failures sink.new) }
+        (held S.written S.kept sink.old) (held S.written S.kept sink.new) (S.failures sink.old) (S.failures sink.new) }
 {
     match answer {
         Answer::Replied(reply) => push_reply(sink, reply, diagnostic),
@@ -262,7 +263,7 @@ pub fn write_json_answer<S: Sink>(
 ) -> Result<(), DeviceFault>
     requires { IsPrintableAnswer (answer_of answer.now) }
     ensures { Pushes (json_text statement line (fault_of diagnostic.entry) (answer_of answer.now)) result
-        (S.written sink.old) (S.written sink.new) (S.failures sink.old) (S.failures sink.new) }
+        (held S.written S.kept sink.old) (held S.written S.kept sink.new) (S.failures sink.old) (S.failures sink.new) }
 {
     push_place(sink, statement, line)?;
     push_answer(sink, answer, diagnostic)?;

@@ -6,7 +6,7 @@ ghost use Rattle.tql_spec.specs.Datum.{Day, Moment};
 ghost use Rattle.tql_spec.specs.Text.{cell_text};
 ghost use Rattle.tql_value.specs.Views.{datum_of_value, datum_of_view, row_of};
 ghost use Rattle.tql_value.specs.Points.{IsDay, IsMoment, IsPrintable};
-ghost use Rattle.tql_result.specs.Devices.{Pushes};
+ghost use Rattle.tql_result.specs.Devices.{Pushes, held};
 
 use crate::escape::push_string;
 use tql_memory::Memory;
@@ -21,7 +21,7 @@ use tql_value::value::{Value, View};
 fn push_day_string<S: Sink>(sink: &mut S, day: i64) -> Result<(), DeviceFault>
     requires { IsDay day }
     ensures { Pushes (in_quotes (cell_text (Day day))) result
-        (S.written sink.old) (S.written sink.new) (S.failures sink.old) (S.failures sink.new) }
+        (held S.written S.kept sink.old) (held S.written S.kept sink.new) (S.failures sink.old) (S.failures sink.new) }
 {
     push_all(sink, b"\"")?;
     push_day(sink, day)?;
@@ -32,7 +32,7 @@ fn push_day_string<S: Sink>(sink: &mut S, day: i64) -> Result<(), DeviceFault>
 fn push_moment_string<S: Sink>(sink: &mut S, moment: i64) -> Result<(), DeviceFault>
     requires { IsMoment moment }
     ensures { Pushes (in_quotes (cell_text (Moment moment))) result
-        (S.written sink.old) (S.written sink.new) (S.failures sink.old) (S.failures sink.new) }
+        (held S.written S.kept sink.old) (held S.written S.kept sink.new) (S.failures sink.old) (S.failures sink.new) }
 {
     push_all(sink, b"\"")?;
     push_moment(sink, b' ', moment)?;
@@ -43,7 +43,7 @@ fn push_moment_string<S: Sink>(sink: &mut S, moment: i64) -> Result<(), DeviceFa
 pub(crate) fn push_value<S: Sink>(sink: &mut S, cell: View<'_>) -> Result<(), DeviceFault>
     requires { IsPrintable (datum_of_view cell) }
     ensures { Pushes (json_value (datum_of_view cell.entry)) result
-        (S.written sink.old) (S.written sink.new) (S.failures sink.old) (S.failures sink.new) }
+        (held S.written S.kept sink.old) (held S.written S.kept sink.new) (S.failures sink.old) (S.failures sink.new) }
 {
     match cell {
         View::Null => push_all(sink, b"null"),
@@ -57,7 +57,7 @@ pub(crate) fn push_value<S: Sink>(sink: &mut S, cell: View<'_>) -> Result<(), De
 /// Pushes a name that is not the first, after a comma and a blank.
 fn push_next_name<S: Sink>(sink: &mut S, name: &str) -> Result<(), DeviceFault>
     ensures { Pushes (44 ∷ 32 ∷ string name.now) result
-        (S.written sink.old) (S.written sink.new) (S.failures sink.old) (S.failures sink.new) }
+        (held S.written S.kept sink.old) (held S.written S.kept sink.new) (S.failures sink.old) (S.failures sink.new) }
 {
     push_all(sink, b", ")?;
     push_string(sink, name.as_bytes())
@@ -66,7 +66,7 @@ fn push_next_name<S: Sink>(sink: &mut S, name: &str) -> Result<(), DeviceFault>
 /// Pushes names, each after a comma.
 fn push_next_names<S: Sink>(sink: &mut S, names: &[String<Memory>]) -> Result<(), DeviceFault>
     ensures { Pushes (flat_map (λ n. 44 ∷ 32 ∷ string (string_bytes n)) names.now) result
-        (S.written sink.old) (S.written sink.new) (S.failures sink.old) (S.failures sink.new) }
+        (held S.written S.kept sink.old) (held S.written S.kept sink.new) (S.failures sink.old) (S.failures sink.new) }
 {
     for name in names {
         push_next_name(sink, name.as_str())?;
@@ -77,7 +77,7 @@ fn push_next_names<S: Sink>(sink: &mut S, names: &[String<Memory>]) -> Result<()
 /// Pushes names, separated by commas.
 fn push_parted_names<S: Sink>(sink: &mut S, names: &[String<Memory>]) -> Result<(), DeviceFault>
     ensures { Pushes (parted (map string (map string_bytes names.now))) result
-        (S.written sink.old) (S.written sink.new) (S.failures sink.old) (S.failures sink.new) }
+        (held S.written S.kept sink.old) (held S.written S.kept sink.new) (S.failures sink.old) (S.failures sink.new) }
 {
     match names.split_first() {
         None => Ok(()),
@@ -91,7 +91,7 @@ fn push_parted_names<S: Sink>(sink: &mut S, names: &[String<Memory>]) -> Result<
 /// Pushes an array of names.
 pub(crate) fn push_names<S: Sink>(sink: &mut S, names: &[String<Memory>]) -> Result<(), DeviceFault>
     ensures { Pushes (array (map string (map string_bytes names.now))) result
-        (S.written sink.old) (S.written sink.new) (S.failures sink.old) (S.failures sink.new) }
+        (held S.written S.kept sink.old) (held S.written S.kept sink.new) (S.failures sink.old) (S.failures sink.new) }
 {
     push_all(sink, b"[")?;
     push_parted_names(sink, names)?;
@@ -102,7 +102,7 @@ pub(crate) fn push_names<S: Sink>(sink: &mut S, names: &[String<Memory>]) -> Res
 fn push_next_value<S: Sink>(sink: &mut S, cell: &Value) -> Result<(), DeviceFault>
     requires { IsPrintable (datum_of_value cell.now) }
     ensures { Pushes (44 ∷ 32 ∷ json_value (datum_of_value cell.now)) result
-        (S.written sink.old) (S.written sink.new) (S.failures sink.old) (S.failures sink.new) }
+        (held S.written S.kept sink.old) (held S.written S.kept sink.new) (S.failures sink.old) (S.failures sink.new) }
 {
     push_all(sink, b", ")?;
     push_value(sink, cell.view())
@@ -112,7 +112,7 @@ fn push_next_value<S: Sink>(sink: &mut S, cell: &Value) -> Result<(), DeviceFaul
 fn push_next_values<S: Sink>(sink: &mut S, cells: &[Value]) -> Result<(), DeviceFault>
     requires { All (λ v. IsPrintable (datum_of_value v)) cells.now }
     ensures { Pushes (flat_map (λ v. 44 ∷ 32 ∷ json_value (datum_of_value v)) cells.now) result
-        (S.written sink.old) (S.written sink.new) (S.failures sink.old) (S.failures sink.new) }
+        (held S.written S.kept sink.old) (held S.written S.kept sink.new) (S.failures sink.old) (S.failures sink.new) }
 {
     for cell in cells {
         push_next_value(sink, cell)?;
@@ -124,7 +124,7 @@ fn push_next_values<S: Sink>(sink: &mut S, cells: &[Value]) -> Result<(), Device
 fn push_parted_values<S: Sink>(sink: &mut S, cells: &[Value]) -> Result<(), DeviceFault>
     requires { All (λ v. IsPrintable (datum_of_value v)) cells.now }
     ensures { Pushes (parted (map json_value (row_of cells.now))) result
-        (S.written sink.old) (S.written sink.new) (S.failures sink.old) (S.failures sink.new) }
+        (held S.written S.kept sink.old) (held S.written S.kept sink.new) (S.failures sink.old) (S.failures sink.new) }
 {
     match cells.split_first() {
         None => Ok(()),
@@ -139,7 +139,7 @@ fn push_parted_values<S: Sink>(sink: &mut S, cells: &[Value]) -> Result<(), Devi
 fn push_row<S: Sink>(sink: &mut S, cells: &[Value]) -> Result<(), DeviceFault>
     requires { All (λ v. IsPrintable (datum_of_value v)) cells.now }
     ensures { Pushes (row_array (row_of cells.now)) result
-        (S.written sink.old) (S.written sink.new) (S.failures sink.old) (S.failures sink.new) }
+        (held S.written S.kept sink.old) (held S.written S.kept sink.new) (S.failures sink.old) (S.failures sink.new) }
 {
     push_all(sink, b"[")?;
     push_parted_values(sink, cells)?;
@@ -150,7 +150,7 @@ fn push_row<S: Sink>(sink: &mut S, cells: &[Value]) -> Result<(), DeviceFault>
 fn push_next_row<S: Sink>(sink: &mut S, cells: &[Value]) -> Result<(), DeviceFault>
     requires { All (λ v. IsPrintable (datum_of_value v)) cells.now }
     ensures { Pushes (44 ∷ 32 ∷ row_array (row_of cells.now)) result
-        (S.written sink.old) (S.written sink.new) (S.failures sink.old) (S.failures sink.new) }
+        (held S.written S.kept sink.old) (held S.written S.kept sink.new) (S.failures sink.old) (S.failures sink.new) }
 {
     push_all(sink, b", ")?;
     push_row(sink, cells)
@@ -160,7 +160,7 @@ fn push_next_row<S: Sink>(sink: &mut S, cells: &[Value]) -> Result<(), DeviceFau
 fn push_next_rows<S: Sink>(sink: &mut S, rows: &[Vec<Value, Memory>]) -> Result<(), DeviceFault>
     requires { All (λ r. All (λ v. IsPrintable (datum_of_value v)) r.items) rows.now }
     ensures { Pushes (flat_map (λ r. 44 ∷ 32 ∷ row_array (row_of r.items)) rows.now) result
-        (S.written sink.old) (S.written sink.new) (S.failures sink.old) (S.failures sink.new) }
+        (held S.written S.kept sink.old) (held S.written S.kept sink.new) (S.failures sink.old) (S.failures sink.new) }
 {
     for row in rows {
         push_next_row(sink, row.as_slice())?;
@@ -172,7 +172,7 @@ fn push_next_rows<S: Sink>(sink: &mut S, rows: &[Vec<Value, Memory>]) -> Result<
 fn push_parted_rows<S: Sink>(sink: &mut S, rows: &[Vec<Value, Memory>]) -> Result<(), DeviceFault>
     requires { All (λ r. All (λ v. IsPrintable (datum_of_value v)) r.items) rows.now }
     ensures { Pushes (parted (map row_array (map (λ r. row_of r.items) rows.now))) result
-        (S.written sink.old) (S.written sink.new) (S.failures sink.old) (S.failures sink.new) }
+        (held S.written S.kept sink.old) (held S.written S.kept sink.new) (S.failures sink.old) (S.failures sink.new) }
 {
     match rows.split_first() {
         None => Ok(()),
@@ -190,7 +190,7 @@ pub(crate) fn push_rows<S: Sink>(
 ) -> Result<(), DeviceFault>
     requires { All (λ r. All (λ v. IsPrintable (datum_of_value v)) r.items) rows.now }
     ensures { Pushes (array (map row_array (map (λ r. row_of r.items) rows.now))) result
-        (S.written sink.old) (S.written sink.new) (S.failures sink.old) (S.failures sink.new) }
+        (held S.written S.kept sink.old) (held S.written S.kept sink.new) (S.failures sink.old) (S.failures sink.new) }
 {
     push_all(sink, b"[")?;
     push_parted_rows(sink, rows)?;

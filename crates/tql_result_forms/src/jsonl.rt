@@ -5,7 +5,7 @@ ghost use Rattle.tql_result_laws.specs.Json.{parted, member, json_value};
 ghost use Rattle.tql_result_laws.specs.Jsonl.{row_members, row_line, jsonl_text};
 ghost use Rattle.tql_value.specs.Views.{datum_of_value, datum_of_view, row_of};
 ghost use Rattle.tql_value.specs.Points.{IsPrintable, ArePrintable};
-ghost use Rattle.tql_result.specs.Devices.{Pushes};
+ghost use Rattle.tql_result.specs.Devices.{Pushes, held};
 ghost use Rattle.tql_result.specs.Replies.{table_rows, headings_of};
 
 use crate::escape::push_string;
@@ -20,7 +20,7 @@ use tql_value::value::{ResultTable, Value, View};
 fn push_member<S: Sink>(sink: &mut S, name: &str, cell: View<'_>) -> Result<(), DeviceFault>
     requires { IsPrintable (datum_of_view cell) }
     ensures { Pushes (member name.now (json_value (datum_of_view cell.entry))) result
-        (S.written sink.old) (S.written sink.new) (S.failures sink.old) (S.failures sink.new) }
+        (held S.written S.kept sink.old) (held S.written S.kept sink.new) (S.failures sink.old) (S.failures sink.new) }
 {
     push_string(sink, name.as_bytes())?;
     push_all(sink, b": ")?;
@@ -36,7 +36,7 @@ fn push_next_member<S: Sink>(
 ) -> Result<(), DeviceFault>
     requires { IsPrintable (datum_of_view cell) }
     ensures { Pushes (front.now ++ member name.now (json_value (datum_of_view cell.entry))) result
-        (S.written sink.old) (S.written sink.new) (S.failures sink.old) (S.failures sink.new) }
+        (held S.written S.kept sink.old) (held S.written S.kept sink.new) (S.failures sink.old) (S.failures sink.new) }
 {
     push_all(sink, front)?;
     push_member(sink, name, cell)
@@ -50,7 +50,7 @@ fn push_members<S: Sink>(
 ) -> Result<(), DeviceFault>
     requires { All (λ v. IsPrintable (datum_of_value v)) cells.now }
     ensures { Pushes (parted (row_members (map string_bytes names.now) (row_of cells.now))) result
-        (S.written sink.old) (S.written sink.new) (S.failures sink.old) (S.failures sink.new) }
+        (held S.written S.kept sink.old) (held S.written S.kept sink.new) (S.failures sink.old) (S.failures sink.new) }
 {
     let mut front: &[u8] = b"";
     for (name, cell) in names.iter().zip(cells) {
@@ -68,7 +68,7 @@ fn push_object<S: Sink>(
 ) -> Result<(), DeviceFault>
     requires { All (λ v. IsPrintable (datum_of_value v)) cells.now }
     ensures { Pushes (row_line (map string_bytes names.now) (row_of cells.now)) result
-        (S.written sink.old) (S.written sink.new) (S.failures sink.old) (S.failures sink.new) }
+        (held S.written S.kept sink.old) (held S.written S.kept sink.new) (S.failures sink.old) (S.failures sink.new) }
 {
     push_all(sink, b"{")?;
     push_members(sink, names, cells)?;
@@ -83,7 +83,7 @@ fn push_objects<S: Sink>(
 ) -> Result<(), DeviceFault>
     requires { All (λ r. All (λ v. IsPrintable (datum_of_value v)) r.items) rows.now }
     ensures { Pushes (flat_map (λ r. row_line (map string_bytes names.now) (row_of r.items)) rows.now) result
-        (S.written sink.old) (S.written sink.new) (S.failures sink.old) (S.failures sink.new) }
+        (held S.written S.kept sink.old) (held S.written S.kept sink.new) (S.failures sink.old) (S.failures sink.new) }
 {
     for row in rows {
         push_object(sink, names, row.as_slice())?;
@@ -100,7 +100,7 @@ fn push_objects<S: Sink>(
 pub fn write_json_rows<S: Sink>(sink: &mut S, table: &ResultTable) -> Result<(), DeviceFault>
     requires { ArePrintable (table_rows table.now) }
     ensures { Pushes (jsonl_text (headings_of table.now) (table_rows table.now)) result
-        (S.written sink.old) (S.written sink.new) (S.failures sink.old) (S.failures sink.new) }
+        (held S.written S.kept sink.old) (held S.written S.kept sink.new) (S.failures sink.old) (S.failures sink.new) }
 {
     push_objects(sink, table.headings.as_slice(), table.rows.as_slice())
 }

@@ -1,6 +1,7 @@
 //! The output formats of a run.
 ghost use Rattle.std.specs.Prelude.{Bool, false, ⊤, IsTrue};
 ghost use Rattle.tql_spec.specs.Answer as run;
+ghost use Rattle.tql_result.specs.Devices.{held};
 ghost use Rattle.tql_result.specs.Replies.{answer_of, IsPrintableAnswer};
 ghost use Rattle.tql_run.specs.Texts.{Texts, Written, Writes, plain_texts};
 
@@ -44,7 +45,8 @@ pub trait Form {
     ) -> Result<(), DeviceFault>
         requires { IsPrintableAnswer (answer_of answer.now) }
         ensures { Writes texts (wrote self.old) (wrote self.new) statement line (answer_of answer.now) result
-            (O.written sink.old) (O.written sink.new) (O.failures sink.old) (O.failures sink.new) };
+            (held O.written O.kept sink.old) (held O.written O.kept sink.new)
+            (O.failures sink.old) (O.failures sink.new) };
 }
 
 /// The plain form: writes each answer as `write_answer` does, whatever answers came before it.

@@ -10,7 +10,7 @@ use Rattle.tql_spec.specs.Answer.{Answer, Replied, Accepted}
 use Rattle.tql_spec.specs.Machine.{Done, Table, Refused}
 use Rattle.tql_detail.specs.declared.detail.Detail.{Detail}
 use Rattle.tql_detail.specs.declared.place.Place.{Place}
-use Rattle.tql_result.specs.Devices.{Pushes}
+use Rattle.tql_result.specs.Devices.{Held, Pushes}
 use Rattle.tql_result_laws.specs.Json.{Fault, unknown, json_text}
 use Rattle.tql_run.specs.Runs.{is_refused}
 use Rattle.tql_run.specs.Texts.{Texts, Writes}
@@ -35,7 +35,7 @@ any_on had now earlier a e is =
     ∙ sym (list_any-append is_table earlier (a ∷ []))
 
 pub csv_writes : {T E : Type 0} (had now : Bool) (number line : ℕ) (a : Answer) (result : Result T E)
-    (o n : Option (List ℕ)) (b k : ℕ) → now ≡ (had || is_table a) → Pushes (csv_answer had a) result o n b k
+    (o n : Held) (b k : ℕ) → now ≡ (had || is_table a) → Pushes (csv_answer had a) result o n b k
     → Writes csv_texts (λ answers. had ≡ list_any is_table answers) (λ answers. now ≡ list_any is_table answers) number
     line a result o n b k
 csv_writes had now number line a (Ok t) o n b k is pushes earlier e = record {
@@ -104,7 +104,7 @@ other_line number line detail (Replied (Table headings rows)) is = refl
 other_line number line detail Accepted is = refl
 
 pub json_writes : {T E : Type 0} (had now : ℕ) (number line : ℕ) (detail : Option (Bor Detail)) (a : Answer)
-    (result : Result T E) (o n : Option (List ℕ)) (b k : ℕ) → now ≡ min (had + 1) most_numbers
+    (result : Result T E) (o n : Held) (b k : ℕ) → now ≡ min (had + 1) most_numbers
     → Pushes (json_of now line detail a) result o n b k
     → Writes json_texts (json_wrote had) (json_wrote now) number line a result o n b k
 json_writes had now number line detail a (Ok t) o n b k is pushes earlier e = record {
@@ -126,7 +126,7 @@ json_writes had now number line detail a (Err t) o n b k is pushes earlier e = r
 -- ---- forms whose texts do not depend on earlier answers
 
 pub always_writes : {T E : Type 0} (texts : Texts) (number line : ℕ) (a : Answer) (text : List ℕ) (result : Result T E)
-    (o n : Option (List ℕ)) (b k : ℕ) → ((earlier : List Answer) → texts earlier number line a text)
+    (o n : Held) (b k : ℕ) → ((earlier : List Answer) → texts earlier number line a text)
     → Pushes text result o n b k → Writes texts (λ _. ⊤) (λ _. ⊤) number line a result o n b k
 always_writes texts number line a text (Ok t) o n b k is pushes earlier e = record {
   text = text;

@@ -1,6 +1,6 @@
 //! Answers in plain text, without refusals.
 ghost use Rattle.std.specs.Prelude.{⊤};
-ghost use Rattle.tql_result.specs.Devices.{Pushes};
+ghost use Rattle.tql_result.specs.Devices.{Pushes, held};
 ghost use Rattle.tql_result.specs.Replies.{answer_of, IsPrintableAnswer};
 ghost use Rattle.tql_run.specs.Runs.{is_refused as refused_of};
 ghost use Rattle.tql_run_forms.specs.Forms.{accepted_answer, accepted_texts};
@@ -17,7 +17,7 @@ use tql_run::form::Form;
 pub(crate) fn push_accepted<O: Sink>(sink: &mut O, answer: &Answer) -> Result<(), DeviceFault>
     requires { IsPrintableAnswer (answer_of answer.now) }
     ensures { Pushes (accepted_answer (answer_of answer.now)) result
-        (O.written sink.old) (O.written sink.new) (O.failures sink.old) (O.failures sink.new) }
+        (held O.written O.kept sink.old) (held O.written O.kept sink.new) (O.failures sink.old) (O.failures sink.new) }
 {
     match answer {
         Answer::Replied(Reply::Refused(_)) => Ok(()),

@@ -1,6 +1,6 @@
 //! Answers for people: tables in boxes, and other answers in plain text.
 ghost use Rattle.std.specs.Prelude.{⊤, List, ℕ, IsFalse};
-ghost use Rattle.tql_result.specs.Devices.{Pushes};
+ghost use Rattle.tql_result.specs.Devices.{Pushes, held};
 ghost use Rattle.tql_result.specs.Replies.{answer_of, headings_of, table_rows, IsPrintableAnswer};
 ghost use Rattle.tql_value.specs.Points.{ArePrintable};
 ghost use Rattle.tql_run.specs.Runs.{is_refused as refused_of};
@@ -22,7 +22,7 @@ use tql_value::value::ResultTable;
 fn push_box<O: Sink>(memory: Memory, sink: &mut O, table: &ResultTable) -> Result<(), DeviceFault>
     requires { ArePrintable (table_rows table.now) }
     ensures { (text : List ℕ) × IsBox (headings_of table.now) (table_rows table.now) text × Pushes text result
-        (O.written sink.old) (O.written sink.new) (O.failures sink.old) (O.failures sink.new) }
+        (held O.written O.kept sink.old) (held O.written O.kept sink.new) (O.failures sink.old) (O.failures sink.new) }
 {
     write_box_table(memory, sink, table)
 }
@@ -32,7 +32,7 @@ fn push_other<O: Sink>(sink: &mut O, answer: &Answer) -> Result<(), DeviceFault>
     requires printable { IsPrintableAnswer (answer_of answer.now) }
     requires other { IsFalse (table_of (answer_of answer.now)) }
     ensures { (text : List ℕ) × IsBoxAnswer (answer_of answer.now) text × Pushes text result
-        (O.written sink.old) (O.written sink.new) (O.failures sink.old) (O.failures sink.new) }
+        (held O.written O.kept sink.old) (held O.written O.kept sink.new) (O.failures sink.old) (O.failures sink.new) }
 {
     push_accepted(sink, answer)
 }
@@ -41,7 +41,7 @@ fn push_other<O: Sink>(sink: &mut O, answer: &Answer) -> Result<(), DeviceFault>
 fn push_answer<O: Sink>(memory: Memory, sink: &mut O, answer: &Answer) -> Result<(), DeviceFault>
     requires { IsPrintableAnswer (answer_of answer.now) }
     ensures { (text : List ℕ) × IsBoxAnswer (answer_of answer.now) text × Pushes text result
-        (O.written sink.old) (O.written sink.new) (O.failures sink.old) (O.failures sink.new) }
+        (held O.written O.kept sink.old) (held O.written O.kept sink.new) (O.failures sink.old) (O.failures sink.new) }
 {
     match answer {
         Answer::Replied(Reply::Table(table)) => push_box(memory, sink, table),

@@ -3,7 +3,7 @@ ghost use Rattle.std.specs.Prelude.{◌≡◌, not, [], ◌∷◌};
 ghost use Rattle.std.specs.List.{list_any};
 ghost use Rattle.tql_value.specs.Points.{ArePrintable};
 ghost use Rattle.tql_result_laws.specs.Csv.{csv_text};
-ghost use Rattle.tql_result.specs.Devices.{Pushes};
+ghost use Rattle.tql_result.specs.Devices.{Pushes, held};
 ghost use Rattle.tql_result.specs.Replies.{answer_of, headings_of, table_rows, IsPrintableAnswer};
 ghost use Rattle.tql_run_forms.specs.Forms.{is_table as table_of, csv_part, csv_answer, csv_texts};
 
@@ -22,7 +22,7 @@ use tql_value::value::ResultTable;
 fn push_next_table<O: Sink>(sink: &mut O, table: &ResultTable) -> Result<(), DeviceFault>
     requires { ArePrintable (table_rows table.now) }
     ensures { Pushes (13 ∷ 10 ∷ csv_text (headings_of table.now) (table_rows table.now)) result
-        (O.written sink.old) (O.written sink.new) (O.failures sink.old) (O.failures sink.new) }
+        (held O.written O.kept sink.old) (held O.written O.kept sink.new) (O.failures sink.old) (O.failures sink.new) }
 {
     push_all(sink, b"\r\n")?;
     write_csv_table(sink, table)
@@ -36,7 +36,7 @@ fn push_table<O: Sink>(
 ) -> Result<(), DeviceFault>
     requires { ArePrintable (table_rows table.now) }
     ensures { Pushes (csv_part has_table (headings_of table.now) (table_rows table.now)) result
-        (O.written sink.old) (O.written sink.new) (O.failures sink.old) (O.failures sink.new) }
+        (held O.written O.kept sink.old) (held O.written O.kept sink.new) (O.failures sink.old) (O.failures sink.new) }
 {
     if has_table {
         push_next_table(sink, table)
@@ -49,7 +49,7 @@ fn push_table<O: Sink>(
 fn push_answer<O: Sink>(sink: &mut O, has_table: bool, answer: &Answer) -> Result<(), DeviceFault>
     requires { IsPrintableAnswer (answer_of answer.now) }
     ensures { Pushes (csv_answer has_table (answer_of answer.now)) result
-        (O.written sink.old) (O.written sink.new) (O.failures sink.old) (O.failures sink.new) }
+        (held O.written O.kept sink.old) (held O.written O.kept sink.new) (O.failures sink.old) (O.failures sink.new) }
 {
     match answer {
         Answer::Replied(Reply::Table(table)) => push_table(sink, has_table, table),

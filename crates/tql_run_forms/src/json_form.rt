@@ -1,6 +1,6 @@
 //! Answers as JSON.
 ghost use Rattle.std.specs.Prelude.{◌≡◌, ◌+◌, min, [], option_map, string_bytes};
-ghost use Rattle.tql_result.specs.Devices.{Pushes};
+ghost use Rattle.tql_result.specs.Devices.{Pushes, held};
 ghost use Rattle.tql_result.specs.Replies.{answer_of, IsPrintableAnswer};
 ghost use Rattle.tql_result_forms.specs.Diagnostics.{fault_of};
 ghost use Rattle.tql_run.specs.Runs.{is_refused as refused_of};
@@ -85,7 +85,7 @@ fn push_answer<O: Sink>(
 ) -> Result<(), DeviceFault>
     requires { IsPrintableAnswer (answer_of answer.now) }
     ensures { Pushes (json_of statement line detail.entry (answer_of answer.now)) result
-        (O.written sink.old) (O.written sink.new) (O.failures sink.old) (O.failures sink.new) }
+        (held O.written O.kept sink.old) (held O.written O.kept sink.new) (O.failures sink.old) (O.failures sink.new) }
 {
     if is_refused(answer) {
         let line = line_of(line, detail);
@@ -139,10 +139,12 @@ impl Form for JsonForm {
         requires { IsPrintableAnswer (answer_of answer.now) }
         ensures writes { Writes json_texts (json_wrote self.old.statements) (json_wrote self.new.statements)
             _statement line (answer_of answer.now) result
-            (O.written sink.old) (O.written sink.new) (O.failures sink.old) (O.failures sink.new) }
+            (held O.written O.kept sink.old) (held O.written O.kept sink.new)
+            (O.failures sink.old) (O.failures sink.new) }
         ensures exact { Pushes (json_of (min (self.old.statements + 1) most_numbers) line detail.entry
             (answer_of answer.now)) result
-            (O.written sink.old) (O.written sink.new) (O.failures sink.old) (O.failures sink.new) }
+            (held O.written O.kept sink.old) (held O.written O.kept sink.new)
+            (O.failures sink.old) (O.failures sink.new) }
     {
         self.statements = self.statements.saturating_add(1);
         push_answer(sink, self.statements, line, answer, detail)

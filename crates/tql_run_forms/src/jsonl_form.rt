@@ -1,6 +1,6 @@
 //! Answers as JSON Lines.
 ghost use Rattle.std.specs.Prelude.{not, ⊤};
-ghost use Rattle.tql_result.specs.Devices.{Pushes};
+ghost use Rattle.tql_result.specs.Devices.{Pushes, held};
 ghost use Rattle.tql_result.specs.Replies.{answer_of, IsPrintableAnswer};
 ghost use Rattle.tql_run_forms.specs.Forms.{is_table as table_of, jsonl_answer, jsonl_texts};
 
@@ -17,7 +17,7 @@ use tql_run::form::Form;
 fn push_answer<O: Sink>(sink: &mut O, answer: &Answer) -> Result<(), DeviceFault>
     requires { IsPrintableAnswer (answer_of answer.now) }
     ensures { Pushes (jsonl_answer (answer_of answer.now)) result
-        (O.written sink.old) (O.written sink.new) (O.failures sink.old) (O.failures sink.new) }
+        (held O.written O.kept sink.old) (held O.written O.kept sink.new) (O.failures sink.old) (O.failures sink.new) }
 {
     match answer {
         Answer::Replied(Reply::Table(table)) => write_json_rows(sink, table),

@@ -13,7 +13,7 @@ returns-in_err-taken g c =
     pushed_cut _ c.loop-rest.rest.now [] c.from_residual.ensures.0 c.loop-rest.invariant
     (sym (append-nil c.loop-rest.rest.now))
     (beginning_none c.loop-rest.rest.now (grind (arith, nat_tests)) c.in_err-taken.ensures.kept)
-    c.in_err-taken.ensures.counted
+    c.in_err-taken.ensures.counted c.in_err-taken.ensures.texts
 
 pub returns-then-taken-eq0 : goal.returns-then-taken-eq0
 returns-then-taken-eq0 g c =
@@ -22,6 +22,7 @@ returns-then-taken-eq0 g c =
     (taken_none _ c.loop-rest.rest.now c.if-taken-eq0.true c.in_ok-taken.ensures.taken))
     (failed_at_none _ (length c.loop-rest.rest.now) c.if-taken-eq0.true (grind (arith, nat_tests))
     c.in_ok-taken.ensures.counted)
+    c.in_ok-taken.ensures.texts
 
 pub loop-rest-smaller : goal.loop-rest-smaller
 loop-rest-smaller g c = simp (length-take, length-drop) (grind (arith, nat_tests))
@@ -32,6 +33,7 @@ loop-rest-preserved g c =
     (rw take_rest (sym (take-append-drop _ _)))
     c.in_ok-taken.ensures.taken
     (counted_at_some _ (length c.loop-rest.rest.now) c.if-taken-eq0.false c.in_ok-taken.ensures.counted)
+    c.in_ok-taken.ensures.texts
 
 pub returns : goal.returns
 returns g c = pushed_whole _ refl (sent_all c.loop-rest.rest.now (grind (arith, nat_tests)) c.loop-rest.invariant)

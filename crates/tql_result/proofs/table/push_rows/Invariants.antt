@@ -2,11 +2,12 @@ use Rattle.std.proofs.Common.{drop}
 use Rattle.std.specs.List.{flat_map}
 use Rattle.tql_spec.specs.Text.{row_text}
 use Rattle.tql_value.specs.Views.{row_of}
+use Rattle.tql_result.specs.Devices.{held}
 use Rattle.tql_result.proofs.Pushing.{Sent}
 use Rattle.tql_result.proofs.table.push_rows.Given as goal
 
 abbrev pub invariant-loop-row : goal.invariant-loop-row
 invariant-loop-row g l =
     Sent (flat_map (λ r. row_text (row_of r.items)) l.rows)
-    (flat_map (λ r. row_text (row_of r.items)) (drop l.row-index l.rows)) (g.S.Sink.written l.initial.sink)
-    (g.S.Sink.written l.sink) (g.S.Sink.failures l.initial.sink) (g.S.Sink.failures l.sink)
+    (flat_map (λ r. row_text (row_of r.items)) (drop l.row-index l.rows)) (held g.S.Sink.written g.S.Sink.kept l.initial.sink)
+    (held g.S.Sink.written g.S.Sink.kept l.sink) (g.S.Sink.failures l.initial.sink) (g.S.Sink.failures l.sink)

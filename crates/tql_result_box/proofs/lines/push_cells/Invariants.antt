@@ -1,6 +1,7 @@
 use Rattle.std.proofs.Common.{drop}
 use Rattle.std.specs.List.{concat}
 use Rattle.tql_value.specs.Views.{row_of}
+use Rattle.tql_result.specs.Devices.{held}
 use Rattle.tql_result.proofs.Pushing.{Sent}
 use Rattle.tql_result_box.specs.Box.{value_box, laid}
 use Rattle.tql_result_box.proofs.lines.push_cells.Given as goal
@@ -9,5 +10,5 @@ abbrev pub invariant-loop-cell : goal.invariant-loop-cell
 invariant-loop-cell g l =
     Sent (concat (laid value_box l.layouts (row_of l.cells)))
     (concat (laid value_box l.behind (row_of (drop l.cell-index l.cells))))
-    (g.S.Sink.written l.initial.sink) (g.S.Sink.written l.sink) (g.S.Sink.failures l.initial.sink)
+    (held g.S.Sink.written g.S.Sink.kept l.initial.sink) (held g.S.Sink.written g.S.Sink.kept l.sink) (g.S.Sink.failures l.initial.sink)
     (g.S.Sink.failures l.sink)

@@ -1,3 +1,4 @@
+use Rattle.tql_result.specs.Devices.{held}
 use Rattle.tql_result.proofs.Pushing.{Sent}
 use Rattle.tql_result_box.specs.Box.{times}
 use Rattle.tql_result_box.proofs.lines.push_times.Given as goal
@@ -8,5 +9,5 @@ decreases-each g l = l.left
 abbrev pub invariant-each : goal.invariant-each
 invariant-each g l =
     Sent (times l.times l.piece) (times l.left l.piece)
-    (g.S.Sink.written l.initial.sink) (g.S.Sink.written l.sink) (g.S.Sink.failures l.initial.sink)
+    (held g.S.Sink.written g.S.Sink.kept l.initial.sink) (held g.S.Sink.written g.S.Sink.kept l.sink) (g.S.Sink.failures l.initial.sink)
     (g.S.Sink.failures l.sink)

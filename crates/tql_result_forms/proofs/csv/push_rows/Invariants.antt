@@ -2,6 +2,7 @@ use Rattle.std.proofs.Common.{map, drop}
 use Rattle.std.specs.List.{flat_map}
 use Rattle.tql_result_laws.specs.Csv.{field, csv_line}
 use Rattle.tql_value.specs.Views.{row_of}
+use Rattle.tql_result.specs.Devices.{held}
 use Rattle.tql_result.proofs.Pushing.{Sent}
 use Rattle.tql_result_forms.proofs.csv.push_rows.Given as goal
 
@@ -9,5 +10,5 @@ abbrev pub invariant-loop-row : goal.invariant-loop-row
 invariant-loop-row g l =
     Sent (flat_map (λ r. csv_line (map field (row_of r.items))) l.rows)
     (flat_map (λ r. csv_line (map field (row_of r.items))) (drop l.row-index l.rows))
-    (g.S.Sink.written l.initial.sink) (g.S.Sink.written l.sink) (g.S.Sink.failures l.initial.sink)
+    (held g.S.Sink.written g.S.Sink.kept l.initial.sink) (held g.S.Sink.written g.S.Sink.kept l.sink) (g.S.Sink.failures l.initial.sink)
     (g.S.Sink.failures l.sink)
