@@ -1,6 +1,6 @@
 .PHONY: help quick run build install package check test edits lint lines earned bench-index
 .PHONY: try-copies try-readers try-points try-devices try-fuzz try-growth-times try-plans try-round-trip try-details try-exports try-recipes
-.PHONY: map proofs laws words
+.PHONY: map proofs laws mutants words
 .NOTPARALLEL:
 SECONDS ?= 60
 PREFIX ?= /usr/local
@@ -24,6 +24,7 @@ To prove and test:
   make map          prints what each crate is, by area; with CRATE=name what the modules of one are
   make proofs       prints the public functions that have contracts, by area; with CRATE=name those of one, with all that they say
   make laws         prints the laws about the definitions
+  make mutants      prints the mutants of the gate, each with what would be wrong
   make words        counts the words of the documents, by page
 To measure and to try at length:
   make bench-index  proves and runs the program that times the indexes; COUNTS="1000 10000" are its numbers of entries
@@ -73,6 +74,9 @@ proofs:
 
 laws:
 	@tools/proofs.py --laws
+
+mutants:
+	@tools/mutants.py --said
 
 words:
 	@tools/words.py --look

@@ -1,7 +1,7 @@
 #!/usr/bin/env python3
 """Lists the mutants, and for each of the gate what its refusal shows beyond the text of a proof by hand.
 
-Usage: tools/mutants.py [--all]        (a part of make lint)
+Usage: tools/mutants.py [--all | --said]        (a part of make lint; make mutants)
 
 A mutant is an edit of crates/NAME/must-fail/, which the gate tries, or of crates/NAME/edits/. A function may have parts
 of its proof written by hand (Answers.antt, Invariants.antt, Proof.antt). These name its exits and loops, so the prover
@@ -12,8 +12,11 @@ the gate needs one of two kinds:
   law       crates/test_mutants has a law function of the mutant's name: at an example with small values, what the wrong
             body returns does not meet the clause.
 
-The status is 1 where a mutant of the gate has neither, where a law has no mutant, or where the gate has fewer mutants
-than LEAST. With --all it lists those of edits/ too, and marks the ones that change a function with a proof by hand.
+tools/mutants.tsv has a line for each mutant of the gate: its crate, its name, and what would be wrong, which --said prints.
+
+The status is 1 where a mutant of the gate has neither kind of evidence or no line, where a law or a line has no mutant, or
+where the gate has fewer mutants than LEAST. With --all it lists those of edits/ too, and marks the ones that change a
+function with a proof by hand.
 """
 import re
 import sys
@@ -21,6 +24,7 @@ from pathlib import Path
 
 TOP = Path(__file__).resolve().parent.parent
 LAWS, LEAST = TOP / "crates" / "test_mutants" / "src", 40
+SAID = TOP / "tools" / "mutants.tsv"
 FUNCTION = re.compile(r"^( *)(?:pub(?:\([a-z]+\))? )?(?:const |unsafe )*fn (\w+)", re.M)
 OWNER = re.compile(r"^(?:unsafe )?impl\b([^{]*)\{|^(?:pub )?trait (\w+)", re.M)
 CYCLE = re.compile(r"#\[cycle\((\w+)\)\]")
@@ -101,15 +105,33 @@ def laws() -> set[str]:
     return {name for text in texts for _, name in FUNCTION.findall(text)}
 
 
+def said() -> dict[tuple[str, str], str]:
+    """What would be wrong with each mutant of the gate, by its crate and name."""
+    rows = [it.split("\t") for it in SAID.read_text(encoding="utf-8").splitlines()]
+    return {(crate, name): text for crate, name, text in rows}
+
+
+def unsaid(gate: list[Mutant]) -> list[str]:
+    """What is wrong with mutants.tsv: a mutant of the gate without a line, or a line without one."""
+    there, lines = {(it.crate.name, it.name) for it in gate}, set(said())
+    return [f"tools/mutants.tsv: {crate}/{name} has no line" for crate, name in sorted(there - lines)] + [
+        f"tools/mutants.tsv: there is no {crate}/must-fail/{name}.edit" for crate, name in sorted(lines - there)]
+
+
 def main(words: list[str]) -> int:
     gate, known = mutants("must-fail"), laws()
+    if words == ["--said"]:
+        texts = said()
+        print("\n".join(f"{it.crate.name:17} {it.name}: {texts.get((it.crate.name, it.name), '')}" for it in gate))
+        return 0
     for it in gate + (mutants("edits") if "--all" in words else []):
         print(f"{it.crate.name:20} {it.folder:9} {it.name:56} {it.kind(known):22} {', '.join(it.functions)}")
     weak = [it.name for it in gate if it.kind(known) not in ("planted", "law")]
     idle = sorted(known - {it.name for it in gate})
     print(f"{len(gate)} mutants in the gate, at least {LEAST}; without evidence: {', '.join(weak) or 'none'}; "
           f"laws without a mutant: {', '.join(idle) or 'none'}")
-    return 1 if weak or idle or len(gate) < LEAST else 0
+    print("".join(f"{it}\n" for it in unsaid(gate)), end="")
+    return 1 if weak or idle or unsaid(gate) or len(gate) < LEAST else 0
 
 
 if __name__ == "__main__":
