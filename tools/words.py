@@ -11,7 +11,7 @@ import sys
 from pathlib import Path
 
 TOP = Path(__file__).resolve().parent.parent
-BOUND = 55_500
+BOUND = 48_000
 
 
 def pages() -> dict[str, int]:
