@@ -64,7 +64,7 @@ lines:
 	@tools/lines.py
 
 lint:
-	@status=0; for it in earned cost mutants documents counts; do tools/$$it.py || status=1; done; exit $$status
+	@status=0; for it in earned cost mutants version documents counts; do tools/$$it.py || status=1; done; exit $$status
 
 map:
 	@tools/map.py $(CRATE)
