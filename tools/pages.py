@@ -16,6 +16,7 @@ The pages are README.md, examples/README.md and, in docs/, QUESTIONS.md, RECIPES
 - examples/: each case of the folder `examples` has an equal copy NAME.sql there, and its row in examples/README.md.
 - README.md: each time in its table is in docs/TIMES.md.
 - RECIPES.md: it links each case of `recipes`, and its lines of Python are in examples/client.py.
+- crates/tql/src/lib.rt: each block of its documentation is a run of lines of the program crates/embedding, but for the blanks before them.
 - Links: the file of each relative link exists, and has the heading that the link names.
 
 With a PROGRAM, README.md's script is run with --format box, and the tables of its standard output are compared with the block line by line;
@@ -235,6 +236,18 @@ def folder_faults() -> Iterator[str]:
             yield f"examples/README.md: no row of {name}"
 
 
+def library_faults() -> Iterator[str]:
+    """Yields the examples of the library that are no lines of the example of a host, and says so if there is none."""
+    host = [line.strip() for it in sorted((TOP / "crates" / "embedding" / "src").glob("*.rt")) for line in lines_of(it)]
+    head = "\n".join(line[3:].strip() for line in lines_of(TOP / "crates" / "tql" / "src" / "lib.rt") if line.startswith("//!"))
+    examples = [it.split("\n") for it in re.findall(r"^```text\n(.*?)\n```$", head, re.M | re.S)]
+    for lines in examples:
+        if not any(host[at:at + len(lines)] == lines for at in range(len(host))):
+            yield f"crates/tql/src/lib.rt: crates/embedding has no such lines: {lines[0]!r} .."
+    if not examples:
+        yield "crates/tql/src/lib.rt: there is no example"
+
+
 def anchors(document: Path) -> set[str]:
     """Returns the names by which links reach the headings of a document."""
     headings = re.findall(r"^#+ (.+)$", re.sub(r"^```.*?^```", "", document.read_text(encoding="utf-8"), flags=re.M | re.S), re.M)
@@ -281,7 +294,7 @@ def box_faults(program: str) -> Iterator[str]:
 def faults(documents: list[Path]) -> list[str]:
     """Returns what is wrong with the pages and with the links of these documents."""
     wrong = [it for page in PAGES for it in example_faults(TOP / page)]
-    wrong += [*client_faults(None), *question_faults(), *recipe_faults(), *refusal_faults(), *time_faults(), *moving_faults(), *folder_faults()]
+    wrong += [*client_faults(None), *question_faults(), *recipe_faults(), *refusal_faults(), *time_faults(), *moving_faults(), *folder_faults(), *library_faults()]
     return wrong + [it for document in documents for it in link_faults(document)]
 
 

@@ -3,17 +3,6 @@
 //! Create the memory in which everything is kept, and an engine in it. Give it a script, or one statement after
 //! another, and read the replies. All data is freed when the engine is dropped.
 //!
-//! ```text
-//! let memory = memory(rt.alloc(), u64::MAX)?;          // or memory_within(rt.alloc(), 1 << 30)?
-//! let mut engine = Engine::new(memory);
-//! let mut output = Vec::new(memory);
-//! let script = b"CREATE TABLE pay (cents INTEGER); INSERT INTO pay VALUES (300000);";
-//! let end = run_bytes(&mut engine, script, &mut output);
-//! if let Reply::Table(rows) = &engine.step(b"SELECT * FROM pay") {
-//!     // rows.headings, and rows.rows: for each row a value for each column
-//! }
-//! ```
-//!
 //! `Engine::step` takes one statement, without its `;`. A `;` ends a statement of a script, and is not part of it. In a
 //! text for `step`, a `;` outside quotes and comments is refused as not a statement.
 //!
@@ -34,8 +23,113 @@
 //! numbers (`View::Day`, `View::Moment`). `read_date` and `read_timestamp` parse their texts, `date_text` and
 //! `timestamp_text` format them, and `day_parts` and `moment_parts` return their parts.
 //!
-//! `crates/embedding` is an example program. `docs/LANGUAGE.md` describes the language. The contract of each function
-//! states what is proved about it.
+//! `docs/LANGUAGE.md` describes the language. The contract of each function states what is proved about it.
+//!
+//! # Examples
+//!
+//! These are lines of the program `crates/embedding`, whose output the gate compares. An engine, with limited memory:
+//!
+//! ```text
+//! let memory = memory_within(rt.alloc(), MOST_BYTES)?;
+//! let mut engine = Engine::new(memory);
+//! ```
+//!
+//! `run`: a script, whose refused statements are noted.
+//!
+//! ```text
+//! let mut source = SliceSource::new(ENTERED);
+//! let mut sink = VecSink::new(Vec::new(memory));
+//! run(engine, &mut source, &mut sink, notes)
+//! ```
+//!
+//! `Notes`: the refused statements, and the details.
+//!
+//! ```text
+//! for note in &notes.kept {
+//!     let text = note.refusal.text();
+//!     println!(rt; "statement {}, line {}: {text}", note.statement, note.line)?;
+//! }
+//! ```
+//!
+//! ```text
+//! let words = told.detail.words.as_str();
+//! let hint = match &told.detail.hint {
+//!     Some(hint) => hint.as_str(),
+//!     None => "none",
+//! };
+//! ```
+//!
+//! `Engine::step` and `Reply`: a query, or any other statement.
+//!
+//! ```text
+//! match &engine.step(b"SELECT day FROM notes") {
+//!     Reply::Table(table) => print_days(rt, memory, table),
+//!     Reply::Refused(_) | Reply::Done(_, _) => Ok(()),
+//! }
+//! ```
+//!
+//! `ResultTable` and `View`: the numbers in a column of an answer.
+//!
+//! ```text
+//! for row in &table.rows {
+//!     if let Some(View::Int(number)) = row.get(column).map(|value| value.view()) {
+//!         total = total.saturating_add(number);
+//!     }
+//! }
+//! ```
+//!
+//! `literal`: a value in a statement, whatever characters it has. A day or a moment outside of the calendar has none.
+//!
+//! ```text
+//! if !is_printable(value) {
+//!     return Ok(());
+//! }
+//! let text = literal(*statement.allocator(), value)?;
+//! statement.push_str(text.as_str())
+//! ```
+//!
+//! `read_date` and `date_text`: a day from its text, and its text.
+//!
+//! ```text
+//! let Some(day) = read_date(day) else {
+//!     return println!(rt; "no day: {day}");
+//! };
+//! ```
+//!
+//! ```text
+//! if !is_day(day) {
+//!     return Ok(());
+//! }
+//! let text = date_text(memory, day)?;
+//! println!(rt; "{}", text.as_str())
+//! ```
+//!
+//! `Engine::table_definition`: the tables, and their columns.
+//!
+//! ```text
+//! for place in 0..engine.table_count() {
+//!     if let Some(definition) = engine.table_definition(place) {
+//!         print_table(rt, definition)?;
+//!     }
+//! }
+//! ```
+//!
+//! ```text
+//! print!(rt; "{}:", definition.name())?;
+//! for column in definition.columns() {
+//!     print!(rt; " {} {}", column.name.as_str(), kind_name(column.kind))?;
+//! }
+//! ```
+//!
+//! `Engine::column_kinds`: the kinds of a query's columns, before it runs.
+//!
+//! ```text
+//! match &engine.column_kinds(question) {
+//!     Ok(Some(kinds)) => print_each(rt, kinds),
+//!     Ok(None) => println!(rt; "no question"),
+//!     Err(refusal) => println!(rt; "refused: {}", refusal.text()),
+//! }
+//! ```
 #![tactic(auto)]
 
 pub use tql_catalog::constraint::{Key, Reference};
