@@ -52,7 +52,8 @@ sent_more a others s e p same still = record {
 pub pushed_whole : {T E : Type 0} {text : List ℕ} {o n : Held} {b k : ℕ} (r : Result T E) → IsOk r
     → Sent text [] o n b k → Pushes text r o n b k
 pushed_whole {text = text} {o = o} {n = n} (Ok x) ok s = record {
-  whole = let P : List ℕ → Type 0 = λ t. Appends o.bytes t n.bytes in subst P (sym (s.parts ∙ append-nil s.front)) s.appends;
+  whole = let P : List ℕ → Type 0 = λ t. Appends o.bytes t n.bytes in
+      subst P (sym (s.parts ∙ append-nil s.front)) s.appends;
   no_failure = s.no_failure;
   cut = tt;
   failure = tt;

@@ -2,6 +2,7 @@ pub mod Faults
 pub mod OneMore
 pub mod Passing
 pub mod Writing
+pub mod Kept
 pub mod Conversing
 pub mod Plain
 pub mod Cutting

@@ -144,6 +144,15 @@ pub came_to : {X E : Type 0} (style : Style) {fails : Bool} {had form : Written}
 came_to {X} {E} style {fails} {had} {form} {number} {line} {answer} {x} {r} {o} {n} {b} {k} e p =
     subst (λ (y : Result X E). PassesOn style fails had form number line answer y o n b k) (sym e) p
 
+-- so can equal contents and counts of a sink before it
+pub came_from : {X E : Type 0} (style : Style) {fails : Bool} {had form : Written} {number line : ℕ} {answer : Answer}
+    {r : Result X E} {o p n : Option (List ℕ)} {b j k : ℕ} → p ≡ o → j ≡ b
+    → PassesOn style fails had form number line answer r p n j k
+    → PassesOn style fails had form number line answer r o n b k
+came_from {X} {E} style {fails} {had} {form} {number} {line} {answer} {r} {o} {p} {n} {b} {j} {k} e same passes =
+    subst (λ (x : Option (List ℕ)). PassesOn style fails had form number line answer r x n b k) e
+    (subst (λ (x : ℕ). PassesOn style fails had form number line answer r p n x k) same passes)
+
 pub appends_none : (a : Option (List ℕ)) → Appends a [] a
 appends_none a = record { holds = λ xs e. e ∙ ap Some (sym (append-nil xs)) }
 

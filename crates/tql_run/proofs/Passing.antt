@@ -3,7 +3,7 @@ use Rattle.std.proofs.Common.{◌∙◌, subst, ℕ, Bool, List, [], ◌∷◌, 
 use Rattle.std.proofs.Common.{append_assoc, append-nil}
 use Rattle.std.specs.Prelude.{Result, IsTrue, OnErr, is_err}
 use Rattle.tql_spec.specs.Answer.{Answer}
-use Rattle.tql_result.specs.Devices.{Appends, Counts, HasFailed}
+use Rattle.tql_result.specs.Devices.{Appends, Counts, HasFailed, Held}
 use Rattle.tql_run.specs.Texts.{Texts, Written, Writes, PassesOn, style_after, written_after}
 use Rattle.tql_run.proofs.OneMore.{appends_on}
 
@@ -14,19 +14,20 @@ wrote_on form before earlier answer w = subst form (append_assoc before earlier 
 
 -- the answer was completely written, and the sink flushed if requested
 pub pushed_whole : {X E : Type 0} (T : Texts) (reported : Answer → Bool) (before : List Answer) (fails : Bool)
-    (had form : Written) (number line : ℕ) (answer : Answer) (u : X) (result : Result X E) (o m n : Option (List ℕ))
+    (had form : Written) (number line : ℕ) (answer : Answer) (u : X) (result : Result X E) (o m : Held)
+    (n : Option (List ℕ))
     (b k j : ℕ) → Writes {T = X} {E = E} T had form number line answer (Ok u) o m b k
-    → Appends m [] n → Counts (is_err result) k j → OnErr result (IsTrue (reported answer) × IsTrue fails)
+    → Appends m.bytes [] n → Counts (is_err result) k j → OnErr result (IsTrue (reported answer) × IsTrue fails)
     → PassesOn (style_after before T reported) fails (written_after before had) (written_after before form) number line
-    answer result o n b j
+    answer result o.bytes n b j
 pushed_whole T reported before fails had form number line answer u (Ok v) o m n b k j writes kept counted allowed
     earlier w =
-    let p = writes (before ++ earlier) w in
+    let p = writes.prints (before ++ earlier) w in
     record {
       text = p.text;
       is_text = p.is_text;
-      whole = subst (λ (xs : List ℕ). Appends o xs n) (append-nil p.text)
-          (appends_on o m n p.text [] p.pushes.whole kept);
+      whole = subst (λ (xs : List ℕ). Appends o.bytes xs n) (append-nil p.text)
+          (appends_on o.bytes m.bytes n p.text [] p.pushes.whole kept);
       no_failure = counted ∙ p.pushes.no_failure;
       wrote = wrote_on form before earlier answer p.wrote;
       cut = tt;
@@ -34,7 +35,7 @@ pushed_whole T reported before fails had form number line answer u (Ok v) o m n 
     }
 pushed_whole T reported before fails had form number line answer u (Err e) o m n b k j writes kept counted allowed
     earlier w =
-    let p = writes (before ++ earlier) w in
+    let p = writes.prints (before ++ earlier) w in
     record {
       text = p.text;
       is_text = p.is_text;
@@ -43,20 +44,20 @@ pushed_whole T reported before fails had form number line answer u (Err e) o m n
       wrote = tt;
       cut = inr (
         allowed,
-        subst (λ (xs : List ℕ). Appends o xs n) (append-nil p.text)
-            (appends_on o m n p.text [] p.pushes.whole kept),
+        subst (λ (xs : List ℕ). Appends o.bytes xs n) (append-nil p.text)
+            (appends_on o.bytes m.bytes n p.text [] p.pushes.whole kept),
       );
       failure = subst (λ (x : ℕ). HasFailed x j) p.pushes.no_failure counted;
     }
 
 -- a proper prefix of the answer was written
 pub pushed_cut : {X E : Type 0} (T : Texts) (reported : Answer → Bool) (before : List Answer) (fails : Bool)
-    (had form : Written) (number line : ℕ) (answer : Answer) (e : E) (o n : Option (List ℕ)) (b k : ℕ)
+    (had form : Written) (number line : ℕ) (answer : Answer) (e : E) (o n : Held) (b k : ℕ)
     → Writes {T = X} {E = E} T had form number line answer (Err e) o n b k
     → PassesOn {T = X} {E = E} (style_after before T reported) fails (written_after before had)
-    (written_after before form) number line answer (Err e) o n b k
+    (written_after before form) number line answer (Err e) o.bytes n.bytes b k
 pushed_cut T reported before fails had form number line answer e o n b k writes earlier w =
-    let p = writes (before ++ earlier) w in
+    let p = writes.prints (before ++ earlier) w in
     record {
       text = p.text;
       is_text = p.is_text;

@@ -411,6 +411,16 @@ ready_flushed M s script stream h form summary from to later t a e same =
     by_case true t = refusal_flushed M s script stream h form summary from to later t a e same
     by_case false t = all_flushed M s script stream h form summary from to later t a e same
 
+-- the sink was pushed nothing more
+pub ready_same : (M : Manner) (s : State) (script : List ℕ) (stream : Stream) (h : Standing)
+    (form : Written) (summary : Summary) (from to later : Shown)
+    → WroteReady M s script stream h form summary from to
+    → later.held ≡ to.held → later.writes ≡ to.writes → later.heard ≡ to.heard
+    → WroteReady M s script stream h form summary from later
+ready_same M s script stream h form summary from to later t e steady same =
+    ready_flushed M s script stream h form summary from to later t
+    (subst (λ (x : Option (List ℕ)). Appends to.held [] x) (sym e) (appends_none to.held)) steady same
+
 -- if the run is not stopped, no answer is a refusal that stops it
 pub goes_on : (bail : Bool) (summary : Summary) → stops bail summary ≡ false → IsTrue bail → summary.refused ≡ 0
 goes_on true summary e b = by_test (summary.refused == 0) refl e

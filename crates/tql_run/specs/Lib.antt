@@ -6,6 +6,7 @@ pub mod Texts
 pub mod Runs
 pub mod RunsIn
 pub mod Keeping
+pub mod Kept
 pub mod Reads
 pub mod Writing
 pub mod Cuts

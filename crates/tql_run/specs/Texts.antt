@@ -4,7 +4,7 @@ use Rattle.std.specs.Prelude.{IsTrue}
 use Rattle.tql_spec.specs.Answer.{Answer}
 use Rattle.tql_spec.specs.Lines.{Placed, line_of}
 use Rattle.tql_spec.specs.Text.{answer_text}
-use Rattle.tql_result.specs.Devices.{Appends, AppendsBeginning, HasFailed, Pushes}
+use Rattle.tql_result.specs.Devices.{Appends, AppendsBeginning, HasFailed, Held, Pushes}
 
 -- whether these bytes may be the text of an answer to the statement with this number, on this line, after the earlier
 -- answers
@@ -40,18 +40,18 @@ plain_style = style_after [] plain_texts (λ _. false)
 -- After the earlier answers, a text of the next one was pushed: the whole text without a failure, and the form has then
 -- written that answer; or a proper prefix of it, followed by a failure.
 pub record Prints {T E : Type 0} (texts : Texts) (earlier : List Answer) (number line : ℕ) (answer : Answer)
-    (result : Result T E) (form : Written) (old new : Option (List ℕ)) (before now : ℕ) : Type 0 where
+    (result : Result T E) (form : Written) (old new : Held) (before now : ℕ) : Type 0 where
   pub text : List ℕ
   pub is_text : texts earlier number line answer text
   pub pushes : Pushes text result old new before now
   pub wrote : OnOk result (form (earlier ++ answer ∷ []))
 
--- a form that may have written these answers prints the next one
-abbrev pub Writes : {T E : Type 0} → (texts : Texts) → (had form : Written) → (number line : ℕ) → (answer : Answer)
-    → (result : Result T E) → (old new : Option (List ℕ)) → (before now : ℕ) → Type 0
-Writes texts had form number line answer result old new before now =
-    (earlier : List Answer) → had earlier
-    → Prints texts earlier number line answer result form old new before now
+-- a form that may have written these answers prints the next one, and keeps no text
+pub record Writes {T E : Type 0} (texts : Texts) (had form : Written) (number line : ℕ) (answer : Answer)
+    (result : Result T E) (old new : Held) (before now : ℕ) : Type 0 where
+  pub prints : (earlier : List Answer) → had earlier
+      → Prints texts earlier number line answer result form old new before now
+  pub kept : new.kept ≡ old.kept
 
 -- After the earlier answers, a text of the next one was pushed, followed by a flush if that is allowed. On success the
 -- whole text was pushed without a failure, and the form has then written that answer. On failure a proper prefix was

@@ -17,3 +17,4 @@ pub mod session;
 pub mod silence;
 pub mod slice_source;
 pub mod std_source;
+mod unkept;

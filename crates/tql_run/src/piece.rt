@@ -1,16 +1,19 @@
 //! The answer to a piece of a script.
+ghost use Rattle.std.specs.Prelude.{◌≡◌, IsTrue};
 ghost use Rattle.tql_spec.specs.Machine.{State};
 ghost use Rattle.tql_spec.specs.Script as script;
 ghost use Rattle.tql_splitter.specs.Pieces.{StandsFor};
 ghost use Rattle.tql_value.specs.Refusals.{refusal_of};
 ghost use Rattle.tql_result.specs.Replies.{answer_of, IsPrintableAnswer};
+ghost use Rattle.tql_run.specs.Kept.{is_kept_answer, is_text, kept_after};
 ghost use Rattle.tql_run.specs.Pieces.{IsCutFault};
 ghost use Rattle.tql_run.specs.Responding.{Answered};
 
 use crate::responder::Responder;
 use tql_detail::detail::Detail;
 use tql_result::answer::Answer;
-use tql_result::reply::Reply;
+use tql_result::reply::{Reply, Verb};
+use tql_result::sink::Sink;
 use tql_splitter::piece::Piece;
 use tql_value::refusal::Refusal;
 
@@ -29,12 +32,37 @@ pub fn answer_piece<R: Responder>(responder: &mut R, piece: Piece<'_>) -> Answer
     ensures answered { (s : State) (p : script.Piece) → R.stands responder.old s → StandsFor piece.entry p
         → Answered R.answering s p (answer_of result) (R.stands responder.new) }
     ensures printable { IsPrintableAnswer (answer_of result) }
+    ensures kept { IsTrue (is_kept_answer (answer_of result)) → IsTrue (is_text piece.entry) }
 {
     match piece {
         Piece::Text(text) => responder.answer(text),
         Piece::TooLong => Answer::Replied(Reply::Refused(Refusal::StatementTooLong)),
         Piece::NoMemory => Answer::Replied(Reply::Refused(Refusal::OutOfMemory)),
         Piece::Unfinished(text) => Answer::Replied(Reply::Refused(cut_fault(text))),
+    }
+}
+
+/// Whether a journal keeps the statement with this answer: it was done, and neither opened nor closed a reader.
+fn is_kept(answer: &Answer) -> bool
+    ensures { result ≡ is_kept_answer (answer_of answer.now) }
+{
+    match answer {
+        Answer::Replied(Reply::Done(Verb::OpenedReader | Verb::ClosedReader, _)) => false,
+        Answer::Replied(Reply::Done(_, _)) => true,
+        _ => false,
+    }
+}
+
+/// Gives the text of a piece to the sink, if a journal keeps the statement with this answer.
+pub fn keep<O: Sink>(sink: &mut O, piece: Piece<'_>, answer: &Answer)
+    ensures kept { O.kept sink.new ≡ kept_after piece.entry (answer_of answer.now) (O.kept sink.old) }
+    ensures written { O.written sink.new ≡ O.written sink.old }
+    ensures failures { O.failures sink.new ≡ O.failures sink.old }
+{
+    if let Piece::Text(text) = piece {
+        if is_kept(answer) {
+            sink.keep(text);
+        }
     }
 }
 

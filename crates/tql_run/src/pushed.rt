@@ -21,6 +21,7 @@ fn flush_reported<F: Form, O: Sink>(
     ensures kept { Appends (O.written sink.old) [] (O.written sink.new) }
     ensures counted { Counts (is_err result) (O.failures sink.old) (O.failures sink.new) }
     ensures allowed { OnErr result (IsTrue (F.reported (answer_of answer.now)) × IsTrue O.flushes_fail) }
+    ensures texts { O.kept sink.new ≡ O.kept sink.old }
 {
     if waits && form.is_reported(answer) {
         sink.flush()
@@ -49,10 +50,11 @@ impl Pushed {
         waits: bool,
     ) -> Pushed
         requires { IsPrintableAnswer (answer_of answer.now) }
-        ensures { (before : List run.Answer) → PassesOn (style_after before F.texts F.reported) O.flushes_fail
+        ensures passes { (before : List run.Answer) → PassesOn (style_after before F.texts F.reported) O.flushes_fail
             (written_after before (F.wrote form.old)) (written_after before (F.wrote form.new))
             statement line (answer_of answer.now) result.outcome
             (O.written sink.old) (O.written sink.new) (O.failures sink.old) (O.failures sink.new) }
+        ensures texts { O.kept sink.new ≡ O.kept sink.old }
     {
         let outcome = match form.write(sink, statement, line, answer, detail) {
             Ok(()) => flush_reported(form, sink, answer, waits),

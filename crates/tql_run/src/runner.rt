@@ -8,6 +8,7 @@ ghost use Rattle.tql_splitter.specs.Holding.{Holds};
 ghost use Rattle.tql_run.specs.Runs.{Runs, source_change, sink_change, count_of, most_bytes};
 ghost use Rattle.tql_run.specs.RunsIn.{RunsIn, manner, stops};
 ghost use Rattle.tql_run.specs.Hearing.{Hears, note_of, hearing_change};
+ghost use Rattle.tql_run.specs.Kept.{KeepsIn, KeepsOn};
 ghost use Rattle.tql_run.specs.Reads.{Pulls, taken};
 ghost use Rattle.tql_run.specs.Texts.{style_after, written_after};
 ghost use Rattle.tql_run.specs.Writing.{AnswersNext, AnswersReady, Tallies, EndsRun, shown};
@@ -15,7 +16,7 @@ ghost use Rattle.tql_run.specs.Writing.{AnswersNext, AnswersReady, Tallies, Ends
 use crate::device::Source;
 use crate::form::{Form, PlainForm};
 use crate::listener::Listener;
-use crate::piece::{answer_piece, detail_of};
+use crate::piece::{answer_piece, detail_of, keep};
 use crate::pushed::Pushed;
 use crate::responder::Responder;
 use crate::run_splitter::RunSplitter;
@@ -85,22 +86,28 @@ fn is_stopped(bail: bool, summary: &Summary) -> bool
     bail && summary.refused != 0
 }
 
-/// Takes the next statement and answers it. Sets `detail` to the detail of the answer, with its place relative to the
-/// statement. `since` is the line on which the open transaction was opened, if known. Returns None if the bytes fed so
-/// far contain no further whole statement.
-fn answer_whole<R: Responder>(
+/// Takes the next statement, answers it, and gives its text to the sink, if a journal keeps it. Sets `detail` to the
+/// detail of the answer, with its place relative to the statement. `since` is the line on which the open transaction
+/// was opened, if known. Returns None if the bytes fed so far contain no further whole statement.
+fn answer_whole<R: Responder, O: Sink>(
     responder: &mut R,
     splitter: &mut Splitter,
+    sink: &mut O,
     since: Option<u64>,
     is_wanted: bool,
     detail: &mut Option<Detail>,
 ) -> Option<Answer>
-    ensures { AnswersNext R.answering result splitter.old splitter.new
+    ensures answers { AnswersNext R.answering result splitter.old splitter.new
         (R.stands responder.old) (R.stands responder.new) }
+    ensures kept { KeepsOn R.answering splitter.old splitter.new (R.stands responder.old) (R.stands responder.new)
+        (O.kept sink.old) (O.kept sink.new) }
+    ensures written { O.written sink.new ≡ O.written sink.old }
+    ensures failures { O.failures sink.new ≡ O.failures sink.old }
 {
     match splitter.next_statement() {
         Some(piece) => {
             let answer = answer_piece(responder, piece);
+            keep(sink, piece, &answer);
             *detail = detail_of(responder, piece, &answer, since, is_wanted);
             Some(answer)
         }
@@ -108,20 +115,34 @@ fn answer_whole<R: Responder>(
     }
 }
 
-/// Takes the next statement and answers it. Frees the previous detail first, then sets `detail`, if it is wanted, with
-/// its place in the script. Returns None if the bytes fed so far contain no further whole statement.
-pub fn answer_next<R: Responder>(
+/// Takes the next statement, answers it, and gives its text to the sink, if a journal keeps it. The caller pushes the
+/// answer afterwards, so no byte of a reply is pushed before its statement was given. Frees the previous detail first,
+/// then sets `detail`, if it is wanted, with its place in the script. Returns None if the bytes fed so far contain no
+/// further whole statement.
+pub fn answer_next<R: Responder, O: Sink>(
     responder: &mut R,
     splitter: &mut RunSplitter,
+    sink: &mut O,
     is_wanted: bool,
     detail: &mut Option<Detail>,
 ) -> Option<Answer>
-    ensures { AnswersNext R.answering result splitter.old splitter.new
+    ensures answers { AnswersNext R.answering result splitter.old splitter.new
         (R.stands responder.old) (R.stands responder.new) }
+    ensures kept { KeepsOn R.answering splitter.old splitter.new (R.stands responder.old) (R.stands responder.new)
+        (O.kept sink.old) (O.kept sink.new) }
+    ensures written { O.written sink.new ≡ O.written sink.old }
+    ensures failures { O.failures sink.new ≡ O.failures sink.old }
 {
     *detail = None;
     let since = splitter.since;
-    let answer = answer_whole(responder, &mut splitter.splitter, since, is_wanted, detail);
+    let answer = answer_whole(
+        responder,
+        &mut splitter.splitter,
+        sink,
+        since,
+        is_wanted,
+        detail,
+    );
     if let Some(told) = detail {
         told.stand_behind(splitter.line(), splitter.column());
     }
@@ -171,11 +192,13 @@ fn answer_ready<R: Responder, O: Sink, L: Listener, F: Form>(
         (shown O.written O.failures L.heard sink.new listener.new) }
     ensures tallies { Tallies splitter.old splitter.new summary.old summary.new }
     ensures ready { OnOk result (IsFalse (stops bail summary.new) → splitter.new.ready ≡ []) }
+    ensures kept { KeepsOn R.answering splitter.old splitter.new (R.stands responder.old) (R.stands responder.new)
+        (O.kept sink.old) (O.kept sink.new) }
 {
     let is_wanted = listener.wants_details() || form.wants_details();
     let waits = listener.waits();
     let mut detail = None;
-    while let Some(answer) = answer_next(responder, splitter, is_wanted, &mut detail) {
+    while let Some(answer) = answer_next(responder, splitter, sink, is_wanted, &mut detail) {
         let statement = summary.statements + 1;
         let line = splitter.line();
         let pushed = Pushed::push(form, sink, statement, line, &answer, detail.as_ref(), waits);
@@ -212,6 +235,8 @@ fn answer_flushed<R: Responder, O: Sink, L: Listener, F: Form>(
         (shown O.written O.failures L.heard sink.new listener.new) }
     ensures tallies { Tallies splitter.old splitter.new summary.old summary.new }
     ensures ready { OnOk result (IsFalse (stops bail summary.new) → splitter.new.ready ≡ []) }
+    ensures kept { KeepsOn R.answering splitter.old splitter.new (R.stands responder.old) (R.stands responder.new)
+        (O.kept sink.old) (O.kept sink.new) }
     ensures flushed { OnOk result (IsTrue (O.flushed sink.new)) }
 {
     match answer_ready(responder, splitter, sink, listener, form, bail, summary) {
@@ -262,6 +287,8 @@ fn answer_rest<R: Responder, O: Sink, L: Listener, F: Form>(
         (shown O.written O.failures L.heard sink.new listener.new) }
     ensures grown { IfOk result
         (λ all. all.refused + summary.statements ≤ all.statements + summary.refused) }
+    ensures kept { KeepsOn R.answering splitter.old splitter.new (R.stands responder.old) (R.stands responder.new)
+        (O.kept sink.old) (O.kept sink.new) }
 {
     let mut all = summary;
     splitter.finish();
@@ -283,12 +310,14 @@ fn converse<R: Responder, I: Source<O>, O: Sink, L: Listener, F: Form>(
 ) -> Result<Summary, Fault>
     requires room { 0 < length buffer.old }
     requires small { length buffer.old ≤ 65_536 }
-    ensures { (before : List run.Answer) → F.wrote form.old before → (s : State) → R.stands responder.old s
+    ensures runs { (before : List run.Answer) → F.wrote form.old before → (s : State) → R.stands responder.old s
         → RunsIn (manner R.answering (style_after before F.texts F.reported) bail) s (R.stands responder.new)
         (written_after before (F.wrote form.new))
         (source_change I.left I.failures I.ended source.old source.new)
         (sink_change O.written O.failures O.flushed O.flushes_fail sink.old sink.new)
         (hearing_change L.heard listener.old listener.new) result }
+    ensures kept { (s : State) → R.stands responder.old s
+        → KeepsIn R.answering s (R.stands responder.new) (O.kept sink.old) (O.kept sink.new) }
 {
     let mut script = RunSplitter::new(responder.memory())?;
     let mut all = Summary {
@@ -341,12 +370,14 @@ pub fn run_in<R: Responder, I: Source<O>, O: Sink, L: Listener, F: Form>(
     form: &mut F,
     bail: bool,
 ) -> Result<Summary, Fault>
-    ensures { (before : List run.Answer) → F.wrote form.old before → (s : State) → R.stands responder.old s
+    ensures runs { (before : List run.Answer) → F.wrote form.old before → (s : State) → R.stands responder.old s
         → RunsIn (manner R.answering (style_after before F.texts F.reported) bail) s (R.stands responder.new)
         (written_after before (F.wrote form.new))
         (source_change I.left I.failures I.ended source.old source.new)
         (sink_change O.written O.failures O.flushed O.flushes_fail sink.old sink.new)
         (hearing_change L.heard listener.old listener.new) result }
+    ensures kept { (s : State) → R.stands responder.old s
+        → KeepsIn R.answering s (R.stands responder.new) (O.kept sink.old) (O.kept sink.new) }
 {
     let mut buffer = vec![in responder.memory(); 0u8; LONGEST_PART]?;
     converse(responder, source, sink, listener, form, bail, &mut buffer)
@@ -359,10 +390,12 @@ pub fn run<R: Responder, I: Source<O>, O: Sink, L: Listener>(
     sink: &mut O,
     listener: &mut L,
 ) -> Result<Summary, Fault>
-    ensures { (s : State) → R.stands responder.old s → Runs R.answering s (R.stands responder.new)
+    ensures runs { (s : State) → R.stands responder.old s → Runs R.answering s (R.stands responder.new)
         (source_change I.left I.failures I.ended source.old source.new)
         (sink_change O.written O.failures O.flushed O.flushes_fail sink.old sink.new)
         (hearing_change L.heard listener.old listener.new) result }
+    ensures kept { (s : State) → R.stands responder.old s
+        → KeepsIn R.answering s (R.stands responder.new) (O.kept sink.old) (O.kept sink.new) }
 {
     run_in(responder, source, sink, listener, &mut PlainForm, false)
 }

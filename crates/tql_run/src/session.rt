@@ -2,16 +2,19 @@
 ghost use Rattle.std.specs.Prelude.{◌≡◌, ◌≤◌, [], length, min, take, IsTrue, IsFalse, IfOk};
 ghost use Rattle.tql_spec.specs.Words.{is_empty};
 ghost use Rattle.tql_splitter.specs.Feeding.{Feeds, Finishes};
+ghost use Rattle.tql_run.specs.Kept.{KeepsOn};
 ghost use Rattle.tql_run.specs.Writing.{AnswersNext};
 
 use crate::responder::Responder;
 use crate::run_splitter::RunSplitter;
 use crate::runner::answer_next;
+use crate::unkept::Unkept;
 use std::alloc::AllocError;
 use std::marker::Model;
 use tql_detail::detail::Detail;
 use tql_memory::Memory;
 use tql_result::answer::Answer;
+use tql_result::sink::Sink;
 use tql_splitter::splitter::LONGEST_PART;
 
 /// A script that arrives in parts. The host feeds bytes as they come, and takes each answer as soon as its statement is
@@ -86,12 +89,30 @@ impl Session {
         ensures { AnswersNext R.answering result self.old self.new
             (R.stands responder.old) (R.stands responder.new) }
     {
-        answer_next(responder, &mut self.splitter, true, &mut self.detail)
+        self.next_kept(responder, &mut Unkept::new())
+    }
+
+    /// Answers the next statement as `next_answer` does, and gives its text to the sink if a journal keeps it. Nothing
+    /// is pushed and nothing flushed: the host passes the answer on after it has flushed the sink, or pushes it there.
+    pub fn next_kept<R: Responder, O: Sink>(
+        &mut self,
+        responder: &mut R,
+        sink: &mut O,
+    ) -> Option<Answer>
+        ensures answers { AnswersNext R.answering result self.old self.new
+            (R.stands responder.old) (R.stands responder.new) }
+        ensures kept { KeepsOn R.answering self.old self.new (R.stands responder.old) (R.stands responder.new)
+            (O.kept sink.old) (O.kept sink.new) }
+        ensures written { O.written sink.new ≡ O.written sink.old }
+        ensures failures { O.failures sink.new ≡ O.failures sink.old }
+    {
+        answer_next(responder, &mut self.splitter, sink, true, &mut self.detail)
     }
 
     /// Returns the detail of the refusal of the last answered statement. It is allocated in the responder's memory, and
-    /// is freed by the next call of `next_answer`. `since` is the line of this session's last START TRANSACTION, so it
-    /// may be wrong if another session ends that transaction and opens one on the same responder.
+    /// is freed by the next call of `next_answer` or `next_kept`. `since` is the line of this session's last
+    /// START TRANSACTION, so it may be wrong if another session ends that transaction and opens one on the same
+    /// responder.
     pub fn detail(&self) -> Option<&Detail> {
         self.detail.as_ref()
     }

@@ -8,5 +8,6 @@ decreases-loop-rest g l = length l.rest
 
 abbrev pub invariant-loop-rest : goal.invariant-loop-rest
 invariant-loop-rest g l =
-    Sent l.bytes l.rest (held g.S.Sink.written g.S.Sink.kept l.initial.sink) (held g.S.Sink.written g.S.Sink.kept l.sink) (g.S.Sink.failures l.initial.sink)
+    Sent l.bytes l.rest (held g.S.Sink.written g.S.Sink.kept l.initial.sink)
+    (held g.S.Sink.written g.S.Sink.kept l.sink) (g.S.Sink.failures l.initial.sink)
     (g.S.Sink.failures l.sink)

@@ -9,5 +9,6 @@ decreases-loop-front g l = length l.rest
 
 abbrev pub invariant-loop-front : goal.invariant-loop-front
 invariant-loop-front g l =
-    Sent (doubled l.quote l.text) (doubled l.quote l.rest) (held g.S.Sink.written g.S.Sink.kept l.initial.sink) (held g.S.Sink.written g.S.Sink.kept l.sink)
+    Sent (doubled l.quote l.text) (doubled l.quote l.rest) (held g.S.Sink.written g.S.Sink.kept l.initial.sink)
+    (held g.S.Sink.written g.S.Sink.kept l.sink)
     (g.S.Sink.failures l.initial.sink) (g.S.Sink.failures l.sink)

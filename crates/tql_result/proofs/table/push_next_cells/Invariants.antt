@@ -9,5 +9,6 @@ use Rattle.tql_result.proofs.table.push_next_cells.Given as goal
 abbrev pub invariant-loop-cell : goal.invariant-loop-cell
 invariant-loop-cell g l =
     Sent (flat_map (λ v. 124 ∷ cell_text (datum_of_value v)) l.cells)
-    (flat_map (λ v. 124 ∷ cell_text (datum_of_value v)) (drop l.cell-index l.cells)) (held g.S.Sink.written g.S.Sink.kept l.initial.sink)
+    (flat_map (λ v. 124 ∷ cell_text (datum_of_value v)) (drop l.cell-index l.cells))
+    (held g.S.Sink.written g.S.Sink.kept l.initial.sink)
     (held g.S.Sink.written g.S.Sink.kept l.sink) (g.S.Sink.failures l.initial.sink) (g.S.Sink.failures l.sink)

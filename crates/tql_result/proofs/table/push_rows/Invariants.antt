@@ -9,5 +9,6 @@ use Rattle.tql_result.proofs.table.push_rows.Given as goal
 abbrev pub invariant-loop-row : goal.invariant-loop-row
 invariant-loop-row g l =
     Sent (flat_map (λ r. row_text (row_of r.items)) l.rows)
-    (flat_map (λ r. row_text (row_of r.items)) (drop l.row-index l.rows)) (held g.S.Sink.written g.S.Sink.kept l.initial.sink)
+    (flat_map (λ r. row_text (row_of r.items)) (drop l.row-index l.rows))
+    (held g.S.Sink.written g.S.Sink.kept l.initial.sink)
     (held g.S.Sink.written g.S.Sink.kept l.sink) (g.S.Sink.failures l.initial.sink) (g.S.Sink.failures l.sink)

@@ -10,5 +10,6 @@ abbrev pub invariant-loop-cell : goal.invariant-loop-cell
 invariant-loop-cell g l =
     Sent (concat (laid value_box l.layouts (row_of l.cells)))
     (concat (laid value_box l.behind (row_of (drop l.cell-index l.cells))))
-    (held g.S.Sink.written g.S.Sink.kept l.initial.sink) (held g.S.Sink.written g.S.Sink.kept l.sink) (g.S.Sink.failures l.initial.sink)
+    (held g.S.Sink.written g.S.Sink.kept l.initial.sink) (held g.S.Sink.written g.S.Sink.kept l.sink)
+    (g.S.Sink.failures l.initial.sink)
     (g.S.Sink.failures l.sink)

@@ -9,5 +9,6 @@ abbrev pub invariant-loop-name : goal.invariant-loop-name
 invariant-loop-name g l =
     Sent (concat (laid heading_box l.layouts (map string_bytes l.names)))
     (concat (laid heading_box l.behind (map string_bytes (drop l.name-index l.names))))
-    (held g.S.Sink.written g.S.Sink.kept l.initial.sink) (held g.S.Sink.written g.S.Sink.kept l.sink) (g.S.Sink.failures l.initial.sink)
+    (held g.S.Sink.written g.S.Sink.kept l.initial.sink) (held g.S.Sink.written g.S.Sink.kept l.sink)
+    (g.S.Sink.failures l.initial.sink)
     (g.S.Sink.failures l.sink)

@@ -10,5 +10,6 @@ abbrev pub invariant-loop-row : goal.invariant-loop-row
 invariant-loop-row g l =
     Sent (flat_map (λ r. row_line l.layouts (row_of r.items)) l.rows)
     (flat_map (λ r. row_line l.layouts (row_of r.items)) (drop l.row-index l.rows))
-    (held g.S.Sink.written g.S.Sink.kept l.initial.sink) (held g.S.Sink.written g.S.Sink.kept l.sink) (g.S.Sink.failures l.initial.sink)
+    (held g.S.Sink.written g.S.Sink.kept l.initial.sink) (held g.S.Sink.written g.S.Sink.kept l.sink)
+    (g.S.Sink.failures l.initial.sink)
     (g.S.Sink.failures l.sink)

@@ -9,5 +9,6 @@ decreases-each g l = l.left
 abbrev pub invariant-each : goal.invariant-each
 invariant-each g l =
     Sent (times l.times l.piece) (times l.left l.piece)
-    (held g.S.Sink.written g.S.Sink.kept l.initial.sink) (held g.S.Sink.written g.S.Sink.kept l.sink) (g.S.Sink.failures l.initial.sink)
+    (held g.S.Sink.written g.S.Sink.kept l.initial.sink) (held g.S.Sink.written g.S.Sink.kept l.sink)
+    (g.S.Sink.failures l.initial.sink)
     (g.S.Sink.failures l.sink)

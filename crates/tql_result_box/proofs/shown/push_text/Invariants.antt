@@ -9,5 +9,6 @@ use Rattle.tql_result_box.proofs.shown.push_text.Given as goal
 abbrev pub invariant-loop-character : goal.invariant-loop-character
 invariant-loop-character g l =
     Sent (visible l.text) (flat_map shown_character (drop (length l.yielded) (chars l.text)))
-    (held g.S.Sink.written g.S.Sink.kept l.initial.sink) (held g.S.Sink.written g.S.Sink.kept l.sink) (g.S.Sink.failures l.initial.sink)
+    (held g.S.Sink.written g.S.Sink.kept l.initial.sink) (held g.S.Sink.written g.S.Sink.kept l.sink)
+    (g.S.Sink.failures l.initial.sink)
     (g.S.Sink.failures l.sink)

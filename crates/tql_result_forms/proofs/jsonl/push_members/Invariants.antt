@@ -12,5 +12,6 @@ invariant-loop-name g l =
     Sent (parted (row_members (map string_bytes l.names) (row_of l.cells)))
     (parted_after l.front
     (row_members (map string_bytes (drop (length l.yielded) l.names)) (row_of (drop (length l.yielded) l.cells))))
-    (held g.S.Sink.written g.S.Sink.kept l.initial.sink) (held g.S.Sink.written g.S.Sink.kept l.sink) (g.S.Sink.failures l.initial.sink)
+    (held g.S.Sink.written g.S.Sink.kept l.initial.sink) (held g.S.Sink.written g.S.Sink.kept l.sink)
+    (g.S.Sink.failures l.initial.sink)
     (g.S.Sink.failures l.sink)

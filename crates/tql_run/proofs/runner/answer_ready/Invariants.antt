@@ -3,6 +3,7 @@ use Rattle.std.specs.Prelude.{IsTrue}
 use Rattle.tql_spec.specs.Answer.{Answer}
 use Rattle.tql_spec.specs.Machine.{State}
 use Rattle.tql_splitter.specs.Stream.{to_do}
+use Rattle.tql_run.specs.Kept.{KeepsOn}
 use Rattle.tql_run.specs.Runs.{most_bytes}
 use Rattle.tql_run.specs.RunsIn.{manner}
 use Rattle.tql_run.specs.Texts.{style_after, written_after}
@@ -25,6 +26,8 @@ invariant-loop-answer g l = record {
   grown : l.summary.refused + l.fn.summary.statements ≤ l.summary.statements + l.fn.summary.refused;
   fewer : l.summary.refused ≤ l.summary.statements;
   going : IsTrue l.fn.bail → l.summary.refused ≡ 0;
+  kept : KeepsOn g.R.Responder.answering l.fn.splitter l.splitter (g.R.Responder.stands l.fn.responder)
+      (g.R.Responder.stands l.responder) (g.O.Sink.kept l.fn.sink) (g.O.Sink.kept l.sink);
 }
 
 abbrev pub decreases-loop-answer : goal.decreases-loop-answer

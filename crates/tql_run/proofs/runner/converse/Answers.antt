@@ -1,35 +1,42 @@
-use Rattle.std.proofs.Common.{refl, sym, subst, ◌∙◌, ◌≡◌, ◌≤◌, ◌++◌, ℕ, inl, inr, arith, take, length, length-take}
+use Rattle.std.proofs.Common.{refl, sym, subst, [], ◌∙◌, ◌≡◌, ◌≤◌, ◌++◌, ℕ, inl, inr, arith, take, length, length-take}
 use Rattle.tql_result.specs.Devices.{HasFailed}
 use Rattle.tql_run.specs.Runs.{most_pulls}
+use Rattle.tql_run.proofs.Kept.{kept_first, kept_fed, kept_through, keeps_none}
 use Rattle.tql_run.proofs.Writing.{wrote_fed, goes_on, at_going}
 use Rattle.tql_run.proofs.Conversing.{converse_first, script_short, failed_writing, failed_reading, gives_kept}
 use Rattle.tql_run.proofs.Conversing.{met_end, none_taken, reads_more, ended_run, stopped_run, all_counted}
 use Rattle.tql_run.proofs.runner.converse.Goals as goal
 
 pub loop-pull-init : goal.loop-pull-init
-loop-pull-init g c = converse_first _ _ _ _ (record {
-  statements = 0;
-  refused = 0;
-}) _ _ _ _ c.in_ok-script.ensures.holds c.in_ok-script.ensures.ready c.in_ok-script.ensures.open refl refl
+loop-pull-init g c = record {
+  run = converse_first _ _ _ _ (record {
+    statements = 0;
+    refused = 0;
+  }) _ _ _ _ c.in_ok-script.ensures.holds c.in_ok-script.ensures.ready c.in_ok-script.ensures.open refl refl;
+  kept = kept_first _ _ _ _ (record { passed = []; left = []; holds = c.in_ok-script.ensures.holds });
+}
 
-pub returns-in-Err : goal.returns-in-Err
-returns-in-Err g c before fresh s st =
-    let i = c.loop-pull.invariant in
+pub returns-in_err-script-clause-kept : goal.returns-in_err-script-clause-kept
+returns-in_err-script-clause-kept g c s st = keeps_none _ s _ _ _ st refl
+
+pub returns-in-Err-clause-runs : goal.returns-in-Err-clause-runs
+returns-in-Err-clause-runs g c before fresh s st =
+    let i = c.loop-pull.invariant.run in
     let few : c.loop-pull._pull ≤ most_pulls = omega arith in
     failed_writing _ s i.script _ _ _ _ _ _ (c.in-Err.ensures.tallies.ended ∙ i.unended) i.reads
     (c.in-Err.ensures.answers before s i.script _ (script_short _ i.script _ few i.reads) (i.wrote before fresh s st))
 
-pub returns-then-is_stopped : goal.returns-then-is_stopped
-returns-then-is_stopped g c before fresh s st =
-    let i = c.loop-pull.invariant in
+pub returns-then-is_stopped-clause-runs : goal.returns-then-is_stopped-clause-runs
+returns-then-is_stopped-clause-runs g c before fresh s st =
+    let i = c.loop-pull.invariant.run in
     let few : c.loop-pull._pull ≤ most_pulls = omega arith in
     stopped_run _ before s _ _ _ _ _ _ _ _ _ _ _ _ _ _ _ i fresh st refl c.in-Ok.ensures.tallies.ended
     c.in-Ok.ensures.tallies.grown (sym c.is_stopped.ensures ∙ c.if-is_stopped.true) c.in-Ok.ensures.flushed
     (c.in-Ok.ensures.answers before s i.script _ (script_short _ i.script _ few i.reads) (i.wrote before fresh s st))
 
-pub returns-in-Err-pull_flushed : goal.returns-in-Err-pull_flushed
-returns-in-Err-pull_flushed g c before fresh s st =
-    let i = c.loop-pull.invariant in
+pub returns-in-Err-pull_flushed-clause-runs : goal.returns-in-Err-pull_flushed-clause-runs
+returns-in-Err-pull_flushed-clause-runs g c before fresh s st =
+    let i = c.loop-pull.invariant.run in
     let few : c.loop-pull._pull ≤ most_pulls = omega arith in
     let p = c.in-Err-pull_flushed.ensures.pulls in
     failed_reading _ s i.script _ _ _ _ _ _ _ (c.in-Ok.ensures.tallies.ended ∙ i.unended)
@@ -45,9 +52,9 @@ returns-in-Err-pull_flushed g c before fresh s st =
     (c.in-Ok.ensures.answers before s i.script _ (script_short _ i.script _ few i.reads) (i.wrote before fresh s
     st)).is)
 
-pub returns-then-count-eq0 : goal.returns-then-count-eq0
-returns-then-count-eq0 g c before fresh s st =
-    let i = c.loop-pull.invariant in
+pub returns-then-count-eq0-clause-runs : goal.returns-then-count-eq0-clause-runs
+returns-then-count-eq0-clause-runs g c before fresh s st =
+    let i = c.loop-pull.invariant.run in
     let few : c.loop-pull._pull ≤ most_pulls = omega arith in
     let p = c.in-Ok-pull_flushed.ensures.pulls in
     let w = at_going _ _ _ (sym c.is_stopped.ensures ∙ c.if-is_stopped.false)
@@ -64,7 +71,7 @@ returns-then-count-eq0 g c before fresh s st =
 
 pub loop-pull-preserved : goal.loop-pull-preserved
 loop-pull-preserved g c =
-    let i = c.loop-pull.invariant in
+    let i = c.loop-pull.invariant.run in
     let few : c.loop-pull._pull ≤ most_pulls = omega arith in
     let p = c.in-Ok-pull_flushed.ensures.pulls in
     let count = c.in-Ok-pull_flushed.count in
@@ -76,33 +83,37 @@ loop-pull-preserved g c =
     let size : length bytes ≡ count = omega (arith, length-take count c.pull_flushed.new.buffer, fits) in
     let unended = c.in-Ok.ensures.tallies.ended ∙ i.unended in
     record {
-      script = i.script ++ bytes;
-      reads = reads_more _ _ count i.script c.pull_flushed.new.buffer bytes _ _ _ _ i.reads p c.if-count-eq0.false fits
-          small refl;
-      wrote = λ before fresh s st. wrote_fed _ s i.script bytes _ _ _ _ _ _ _ unended
-          (at_going _ _ _ (sym c.is_stopped.ensures ∙ c.if-is_stopped.false)
-          (c.in-Ok.ensures.answers before s i.script _ (script_short _ i.script _ few i.reads) (i.wrote before fresh s
-          st)).is).to
+      run = record {
+        script = i.script ++ bytes;
+        reads = reads_more _ _ count i.script c.pull_flushed.new.buffer bytes _ _ _ _ i.reads p c.if-count-eq0.false
+            fits small refl;
+        wrote = λ before fresh s st. wrote_fed _ s i.script bytes _ _ _ _ _ _ _ unended
+            (at_going _ _ _ (sym c.is_stopped.ensures ∙ c.if-is_stopped.false)
+            (c.in-Ok.ensures.answers before s i.script _ (script_short _ i.script _ few i.reads) (i.wrote before fresh s
+            st)).is).to
+            c.feed.ensures;
+        unended = c.feed.ensures.ended ∙ unended;
+        room = omega (arith, i.room, c.in-Ok.ensures.tallies.room, c.feed.ensures.more, size, fits, small);
+        fewer = let grown = c.in-Ok.ensures.tallies.grown in omega (arith, grown, i.fewer);
+        going = goes_on c.args.bail c.answer_flushed.new.summary (sym c.is_stopped.ensures ∙ c.if-is_stopped.false);
+        before = i.script;
+        last = bytes;
+        parts = refl;
+        small = omega (arith, size, fits, small);
+        asked = λ before fresh s st.
+            let all = all_counted _ s i.script _ _ _ _ _ _ unended
+            (at_going _ _ _ (sym c.is_stopped.ensures ∙ c.if-is_stopped.false)
+            (c.in-Ok.ensures.answers before s i.script _ (script_short _ i.script _ few i.reads) (i.wrote before fresh s
+            st)).is) in
+            omega (arith, all);
+      };
+      kept = kept_fed _ _ _ _ _ _ _ _ (kept_through _ _ _ _ _ _ _ _ _ c.loop-pull.invariant.kept c.in-Ok.ensures.kept)
           c.feed.ensures;
-      unended = c.feed.ensures.ended ∙ unended;
-      room = omega (arith, i.room, c.in-Ok.ensures.tallies.room, c.feed.ensures.more, size, fits, small);
-      fewer = let grown = c.in-Ok.ensures.tallies.grown in omega (arith, grown, i.fewer);
-      going = goes_on c.args.bail c.answer_flushed.new.summary (sym c.is_stopped.ensures ∙ c.if-is_stopped.false);
-      before = i.script;
-      last = bytes;
-      parts = refl;
-      small = omega (arith, size, fits, small);
-      asked = λ before fresh s st.
-          let all = all_counted _ s i.script _ _ _ _ _ _ unended
-          (at_going _ _ _ (sym c.is_stopped.ensures ∙ c.if-is_stopped.false)
-          (c.in-Ok.ensures.answers before s i.script _ (script_short _ i.script _ few i.reads) (i.wrote before fresh s
-          st)).is) in
-          omega (arith, all);
     }
 
-pub returns-in-Ok-answer_flushed : goal.returns-in-Ok-answer_flushed
-returns-in-Ok-answer_flushed g c before fresh s st =
-    let i = c.loop-pull.invariant in
+pub returns-in-Ok-answer_flushed-clause-runs : goal.returns-in-Ok-answer_flushed-clause-runs
+returns-in-Ok-answer_flushed-clause-runs g c before fresh s st =
+    let i = c.loop-pull.invariant.run in
     let few : c.loop-pull._pull ≤ most_pulls = omega arith in
     stopped_run _ before s _ _ _ _ _ _ _ _ _ _ _ _ _ _ _ i fresh st refl c.in-Ok-answer_flushed.ensures.tallies.ended
     c.in-Ok-answer_flushed.ensures.tallies.grown (sym c.if-is_stopped-2.ensures)
@@ -110,9 +121,9 @@ returns-in-Ok-answer_flushed g c before fresh s st =
     (c.in-Ok-answer_flushed.ensures.answers before s i.script _ (script_short _ i.script _ few i.reads) (i.wrote
     before fresh s st))
 
-pub returns-in-Ok-2 : goal.returns-in-Ok-2
-returns-in-Ok-2 g c before fresh s st =
-    let i = c.loop-pull.invariant in
+pub returns-in-Ok-2-clause-runs : goal.returns-in-Ok-2-clause-runs
+returns-in-Ok-2-clause-runs g c before fresh s st =
+    let i = c.loop-pull.invariant.run in
     let few : c.loop-pull._pull ≤ most_pulls = omega arith in
     let all : most_pulls ≤ length i.script = omega (arith, i.reads.grown, c.loop-pull-test.false) in
     let going = sym c.if-is_stopped-2.ensures in
@@ -124,10 +135,39 @@ returns-in-Ok-2 g c before fresh s st =
     (c.in-Ok-2.ensures.answers before s i.script _ (script_short _ i.script _ few i.reads) (i.wrote before fresh s
     st)).is)
 
-pub returns : goal.returns
-returns g c before fresh s st =
-    let i = c.loop-pull.invariant in
+pub returns-clause-runs : goal.returns-clause-runs
+returns-clause-runs g c before fresh s st =
+    let i = c.loop-pull.invariant.run in
     let few : c.loop-pull._pull ≤ most_pulls = omega arith in
     failed_writing _ s i.script _ _ _ _ _ _ (c.in-Err-answer_flushed.ensures.tallies.ended ∙ i.unended) i.reads
     (c.in-Err-answer_flushed.ensures.answers before s i.script _ (script_short _ i.script _ few i.reads)
     (i.wrote before fresh s st))
+
+pub returns-in-Err-clause-kept : goal.returns-in-Err-clause-kept
+returns-in-Err-clause-kept g c s st =
+    (kept_through _ _ _ _ _ _ _ _ _ c.loop-pull.invariant.kept c.in-Err.ensures.kept).keeps s st
+
+pub returns-then-is_stopped-clause-kept : goal.returns-then-is_stopped-clause-kept
+returns-then-is_stopped-clause-kept g c s st =
+    (kept_through _ _ _ _ _ _ _ _ _ c.loop-pull.invariant.kept c.in-Ok.ensures.kept).keeps s st
+
+pub returns-in-Err-pull_flushed-clause-kept : goal.returns-in-Err-pull_flushed-clause-kept
+returns-in-Err-pull_flushed-clause-kept g c s st =
+    (kept_through _ _ _ _ _ _ _ _ _ c.loop-pull.invariant.kept c.in-Ok.ensures.kept).keeps s st
+
+pub returns-then-count-eq0-clause-kept : goal.returns-then-count-eq0-clause-kept
+returns-then-count-eq0-clause-kept g c s st =
+    (kept_through _ _ _ _ _ _ _ _ _ (kept_through _ _ _ _ _ _ _ _ _ c.loop-pull.invariant.kept c.in-Ok.ensures.kept)
+    c.answer_rest.ensures.kept).keeps s st
+
+pub returns-in-Ok-answer_flushed-clause-kept : goal.returns-in-Ok-answer_flushed-clause-kept
+returns-in-Ok-answer_flushed-clause-kept g c s st =
+    (kept_through _ _ _ _ _ _ _ _ _ c.loop-pull.invariant.kept c.in-Ok-answer_flushed.ensures.kept).keeps s st
+
+pub returns-in-Ok-2-clause-kept : goal.returns-in-Ok-2-clause-kept
+returns-in-Ok-2-clause-kept g c s st =
+    (kept_through _ _ _ _ _ _ _ _ _ c.loop-pull.invariant.kept c.in-Ok-2.ensures.kept).keeps s st
+
+pub returns-clause-kept : goal.returns-clause-kept
+returns-clause-kept g c s st =
+    (kept_through _ _ _ _ _ _ _ _ _ c.loop-pull.invariant.kept c.in-Err-answer_flushed.ensures.kept).keeps s st

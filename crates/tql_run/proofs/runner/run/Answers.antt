@@ -2,5 +2,5 @@ use Rattle.std.proofs.Common.{[]}
 use Rattle.tql_run.proofs.Plain.{runs_plain}
 use Rattle.tql_run.proofs.runner.run.Goals as goal
 
-pub returns : goal.returns
-returns g c s st = runs_plain _ s _ _ _ _ c.run_in.result (c.run_in.ensures [] tt s st)
+pub returns-clause-runs : goal.returns-clause-runs
+returns-clause-runs g c s st = runs_plain _ s _ _ _ _ c.run_in.result (c.run_in.ensures.runs [] tt s st)
