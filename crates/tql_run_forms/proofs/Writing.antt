@@ -38,17 +38,23 @@ pub csv_writes : {T E : Type 0} (had now : Bool) (number line : ℕ) (a : Answer
     (o n : Held) (b k : ℕ) → now ≡ (had || is_table a) → Pushes (csv_answer had a) result o n b k
     → Writes csv_texts (λ answers. had ≡ list_any is_table answers) (λ answers. now ≡ list_any is_table answers) number
     line a result o n b k
-csv_writes had now number line a (Ok t) o n b k is pushes earlier e = record {
-  text = csv_answer had a;
-  is_text = ap (λ (x : Bool). csv_answer x a) e;
-  pushes = pushes;
-  wrote = any_on had now earlier a e is;
+csv_writes had now number line a (Ok t) o n b k is pushes = record {
+  prints = λ earlier e. record {
+    text = csv_answer had a;
+    is_text = ap (λ (x : Bool). csv_answer x a) e;
+    pushes = pushes;
+    wrote = any_on had now earlier a e is;
+  };
+  kept = pushes.kept;
 }
-csv_writes had now number line a (Err t) o n b k is pushes earlier e = record {
-  text = csv_answer had a;
-  is_text = ap (λ (x : Bool). csv_answer x a) e;
-  pushes = pushes;
-  wrote = tt;
+csv_writes had now number line a (Err t) o n b k is pushes = record {
+  prints = λ earlier e. record {
+    text = csv_answer had a;
+    is_text = ap (λ (x : Bool). csv_answer x a) e;
+    pushes = pushes;
+    wrote = tt;
+  };
+  kept = pushes.kept;
 }
 
 -- ---- JSON
@@ -107,20 +113,26 @@ pub json_writes : {T E : Type 0} (had now : ℕ) (number line : ℕ) (detail : O
     (result : Result T E) (o n : Held) (b k : ℕ) → now ≡ min (had + 1) most_numbers
     → Pushes (json_of now line detail a) result o n b k
     → Writes json_texts (json_wrote had) (json_wrote now) number line a result o n b k
-json_writes had now number line detail a (Ok t) o n b k is pushes earlier e = record {
-  text = json_of now line detail a;
-  is_text = subst (λ (x : ℕ). IsJsonAnswer x line a (json_of now line detail a)) (next_number had now earlier e is)
-      (json_is now line detail a);
-  pushes = pushes;
-  wrote = next_number had now earlier e is
-      ∙ ap (λ (x : ℕ). min x most_numbers) (sym (one_longer earlier a));
+json_writes had now number line detail a (Ok t) o n b k is pushes = record {
+  prints = λ earlier e. record {
+    text = json_of now line detail a;
+    is_text = subst (λ (x : ℕ). IsJsonAnswer x line a (json_of now line detail a)) (next_number had now earlier e is)
+        (json_is now line detail a);
+    pushes = pushes;
+    wrote = next_number had now earlier e is
+        ∙ ap (λ (x : ℕ). min x most_numbers) (sym (one_longer earlier a));
+  };
+  kept = pushes.kept;
 }
-json_writes had now number line detail a (Err t) o n b k is pushes earlier e = record {
-  text = json_of now line detail a;
-  is_text = subst (λ (x : ℕ). IsJsonAnswer x line a (json_of now line detail a)) (next_number had now earlier e is)
-      (json_is now line detail a);
-  pushes = pushes;
-  wrote = tt;
+json_writes had now number line detail a (Err t) o n b k is pushes = record {
+  prints = λ earlier e. record {
+    text = json_of now line detail a;
+    is_text = subst (λ (x : ℕ). IsJsonAnswer x line a (json_of now line detail a)) (next_number had now earlier e is)
+        (json_is now line detail a);
+    pushes = pushes;
+    wrote = tt;
+  };
+  kept = pushes.kept;
 }
 
 -- ---- forms whose texts do not depend on earlier answers
@@ -128,17 +140,23 @@ json_writes had now number line detail a (Err t) o n b k is pushes earlier e = r
 pub always_writes : {T E : Type 0} (texts : Texts) (number line : ℕ) (a : Answer) (text : List ℕ) (result : Result T E)
     (o n : Held) (b k : ℕ) → ((earlier : List Answer) → texts earlier number line a text)
     → Pushes text result o n b k → Writes texts (λ _. ⊤) (λ _. ⊤) number line a result o n b k
-always_writes texts number line a text (Ok t) o n b k is pushes earlier e = record {
-  text = text;
-  is_text = is earlier;
-  pushes = pushes;
-  wrote = tt;
+always_writes texts number line a text (Ok t) o n b k is pushes = record {
+  prints = λ earlier e. record {
+    text = text;
+    is_text = is earlier;
+    pushes = pushes;
+    wrote = tt;
+  };
+  kept = pushes.kept;
 }
-always_writes texts number line a text (Err t) o n b k is pushes earlier e = record {
-  text = text;
-  is_text = is earlier;
-  pushes = pushes;
-  wrote = tt;
+always_writes texts number line a text (Err t) o n b k is pushes = record {
+  prints = λ earlier e. record {
+    text = text;
+    is_text = is earlier;
+    pushes = pushes;
+    wrote = tt;
+  };
+  kept = pushes.kept;
 }
 
 -- ---- boxes
