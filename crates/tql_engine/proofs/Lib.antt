@@ -6,3 +6,4 @@ pub mod Agreeing
 pub mod SessionRuns
 pub mod RunHolds
 pub mod Together
+pub mod Kept

@@ -5,3 +5,4 @@ pub mod ReaderRuns
 pub mod Agreeing
 pub mod Sessions
 pub mod Together
+pub mod Kept

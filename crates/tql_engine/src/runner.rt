@@ -1,5 +1,5 @@
 //! A whole run of a script on an engine.
-ghost use Rattle.std.specs.Prelude.{List, false, ⊤};
+ghost use Rattle.std.specs.Prelude.{ℕ, List, false, ⊤};
 ghost use Rattle.tql_spec.specs.Answer as run;
 ghost use Rattle.tql_spec.specs.Machine.{State};
 ghost use Rattle.tql_spec.specs.Reached.{IsInOrder};
@@ -10,6 +10,7 @@ ghost use Rattle.tql_run.specs.Texts.{plain_style, style_after, written_after};
 ghost use Rattle.tql_engine.specs.Bytes.{RunsBytes};
 ghost use Rattle.tql_run.specs.Ending.{Responds};
 ghost use Rattle.tql_engine_step.specs.HoldPoints.{HoldsFor};
+ghost use Rattle.tql_engine.specs.Kept.{HadKept, KeepsSession};
 ghost use Rattle.tql_engine.specs.PointRuns.{BytesAgreeAtPoints};
 ghost use Rattle.tql_engine.specs.ReaderRuns.{BytesReadStably};
 ghost use Rattle.tql_engine.specs.Agreeing.{RunsAgreeing};
@@ -56,7 +57,9 @@ const TOO_MANY_BYTES: usize = MOST_PULLS as usize;
 /// have had when the reader was opened, whatever was written since, unless it is refused for the horizon, the reader or
 /// memory. Pruning is not visible: without the statements that pruned, or were refused for the horizon, all others have
 /// the same replies. Clause `holds`: if keys and references hold at every point of time in each copy of the reference
-/// model, they still do after the run.
+/// model, they still do after the run. Clause `kept`: if the texts that the sink was given to keep are a journal of the
+/// engine's state before the run, they are one of its state after the run, whatever the result is. No byte of a reply
+/// is pushed before the text of its statement was given to the sink.
 pub fn run_in<I: IntervalIndex, S: Source<O>, O: Sink, L: Listener, F: Form>(
     engine: &mut Engine<I>,
     source: &mut S,
@@ -83,6 +86,8 @@ pub fn run_in<I: IntervalIndex, S: Source<O>, O: Sink, L: Listener, F: Form>(
         (source_change S.left S.failures S.ended source.old source.new)
         (sink_change O.written O.failures O.flushed O.flushes_fail sink.old sink.new)
         (hearing_change L.heard listener.old listener.new) result }
+    ensures kept { (s : State) (earlier : List (List ℕ)) → StandsFor engine.old s
+        → HadKept earlier s (O.kept sink.old) → KeepsSession earlier s (StandsFor engine.new) (O.kept sink.new) }
 {
     pruned_history();
     readers_agree();
@@ -109,6 +114,8 @@ pub fn run<I: IntervalIndex, S: Source<O>, O: Sink, L: Listener>(
         (source_change S.left S.failures S.ended source.old source.new)
         (sink_change O.written O.failures O.flushed O.flushes_fail sink.old sink.new)
         (hearing_change L.heard listener.old listener.new) result }
+    ensures kept { (s : State) (earlier : List (List ℕ)) → StandsFor engine.old s
+        → HadKept earlier s (O.kept sink.old) → KeepsSession earlier s (StandsFor engine.new) (O.kept sink.new) }
 {
     run_in(engine, source, sink, listener, &mut PlainForm, false)
 }

@@ -1,6 +1,7 @@
 //! The guarantees of a session over an engine: its answers are those of a run, and keys and references hold after each
 //! call.
 ghost use Rattle.tql_turns.specs.Merge.{SessionsMergeOn};
+ghost use Rattle.tql_engine.specs.Kept.{SessionsAreKept};
 ghost use Rattle.tql_engine.specs.Sessions.{SessionsHold};
 ghost use Rattle.tql_engine.specs.Together.{SessionsHoldTogether, StepsAreApart, engine_sessions};
 
@@ -18,6 +19,12 @@ pub fn sessions_hold()
     pruned_history();
     readers_agree();
 }
+
+/// A host gives `tql_run::session::Session::next_kept` a sink that keeps a journal. If the texts that the sink was
+/// given are a journal of the engine's state before the session, they are one of its state after each call.
+pub fn sessions_kept()
+    ensures { SessionsAreKept }
+{}
 
 /// Several sessions take turns on one engine, and steps of the engine may come between their calls. The answers, in the
 /// order in which they are taken, are those of one run over a merge of the statements: the merge has the first

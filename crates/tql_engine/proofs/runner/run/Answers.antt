@@ -10,3 +10,6 @@ returns-clause-agrees t c s st = c.run_in.ensures.agrees [] tt s st
 
 pub returns-clause-holds : goal.returns-clause-holds
 returns-clause-holds t c s h = runs_plain _ s _ _ _ _ c.run_in.result (c.run_in.ensures.holds [] tt s h)
+
+pub returns-clause-kept : goal.returns-clause-kept
+returns-clause-kept t c s earlier st had = c.run_in.ensures.kept s earlier st had
