@@ -1,6 +1,7 @@
 //! One file for each subject; the others share `devices`.
 mod devices;
 mod indexes;
+mod kept;
 mod memories;
 mod notes;
 mod runs;
