@@ -20,7 +20,7 @@ use Rattle.tql_splitter.proofs.HoldLemmas.{feeds_on, kept_still, one_at_most}
 
 -- ---- plain bytes
 
-abbrev ArePlain : List ℕ → Type 0
+abbrev pub ArePlain : List ℕ → Type 0
 ArePlain [] = Unit {0}
 ArePlain (b ∷ bs) = (is_plain b ≡ true) × ArePlain bs
 
@@ -35,11 +35,11 @@ none_of true false false false true v e = absurd cc
 none_of true false false false false true e = absurd cc
 none_of true false false false false false e = (refl, refl, refl, refl, refl)
 
-plain_is : (b : ℕ) → is_plain b ≡ true
+pub plain_is : (b : ℕ) → is_plain b ≡ true
     → ((b == 59) ≡ false) × ((b == 39) ≡ false) × ((b == 34) ≡ false) × ((b == 45) ≡ false) × ((b == 10) ≡ false)
 plain_is b e = none_of (nat_lt b 128) (b == 59) (b == 39) (b == 34) (b == 45) (b == 10) e
 
-front_plain : (xs : List ℕ) → ArePlain (plain_front xs)
+pub front_plain : (xs : List ℕ) → ArePlain (plain_front xs)
 front_plain [] = tt
 front_plain (x ∷ xs) = by (is_plain x) refl (front_plain xs) where
   by : (t : Bool) → is_plain x ≡ t → ArePlain (plain_front xs) → ArePlain (plain_front (x ∷ xs))
@@ -53,7 +53,7 @@ front_parts xs = ap (λ (k : ℕ). plain_front xs ++ drop k xs) (length-prefix_l
 
 -- ---- states, ends and line feeds
 
-stays : (p : ScanState) (b : ℕ) → is_steady p ≡ true → is_plain b ≡ true → state_after p b ≡ p
+pub stays : (p : ScanState) (b : ℕ) → is_steady p ≡ true → is_plain b ≡ true → state_after p b ≡ p
 stays Outside b s e = let h = plain_is b e in rw (h.3, h.1, h.2) refl
 stays AfterDash b s e = absurd cc
 stays InText b s e = rw (plain_is b e).1 refl

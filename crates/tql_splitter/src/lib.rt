@@ -5,5 +5,5 @@ mod columns;
 mod pending;
 pub mod piece;
 mod ready;
-mod scan_state;
+pub mod scan_state;
 pub mod splitter;

@@ -7,7 +7,7 @@ ghost use Rattle.tql_splitter.specs.Plain as spec;
 
 /// Where a byte is, as determined by the bytes before it.
 #[derive(Clone, Copy)]
-pub(crate) enum ScanState {
+pub enum ScanState {
     Outside,
     AfterDash,
     InText,
@@ -27,7 +27,7 @@ fn opened_by(byte: u8) -> ScanState
 }
 
 /// Returns the state after this byte.
-pub(crate) fn state_after(place: ScanState, byte: u8) -> ScanState
+pub fn state_after(place: ScanState, byte: u8) -> ScanState
     ensures { state_of result ≡ script.state_after (state_of place) byte }
 {
     match (place, byte) {
@@ -41,7 +41,7 @@ pub(crate) fn state_after(place: ScanState, byte: u8) -> ScanState
 }
 
 /// Whether a byte in this state is in a comment.
-pub(crate) fn is_comment(place: ScanState) -> bool
+pub fn is_comment(place: ScanState) -> bool
     ensures { result ≡ is_comment (state_of place) }
 {
     matches!(place, ScanState::InComment)
@@ -55,7 +55,7 @@ fn is_plain(byte: u8) -> bool
 }
 
 /// Counts the plain bytes at the front.
-pub(crate) fn plain_length(bytes: &[u8]) -> usize
+pub fn plain_length(bytes: &[u8]) -> usize
     ensures value { result ≡ prefix_len spec.is_plain bytes.now }
     ensures within { result ≤ length bytes.now }
 {
@@ -63,14 +63,14 @@ pub(crate) fn plain_length(bytes: &[u8]) -> usize
 }
 
 /// Whether no plain byte changes this state.
-pub(crate) fn is_steady(place: ScanState) -> bool
+pub fn is_steady(place: ScanState) -> bool
     ensures { result ≡ spec.is_steady (state_of place) }
 {
     !matches!(place, ScanState::AfterDash)
 }
 
 /// Whether a `;` in this state ends a statement.
-pub(crate) fn can_end(place: ScanState) -> bool
+pub fn can_end(place: ScanState) -> bool
     ensures { result ≡ script.can_end (state_of place) }
 {
     matches!(place, ScanState::Outside | ScanState::AfterDash)
