@@ -47,6 +47,14 @@ memory_rule = record (new_rule (codes "memory")) { long = Some (codes "memory");
 abbrev pub format_rule : Rule
 format_rule = record (new_rule (codes "format")) { long = Some (codes "format"); value_names = 1 }
 
+-- `--journal FILE`
+abbrev pub journal_rule : Rule
+journal_rule = record (new_rule (codes "journal")) { long = Some (codes "journal"); value_names = 1 }
+
+-- `--verify FILE`
+abbrev pub verify_rule : Rule
+verify_rule = record (new_rule (codes "verify")) { long = Some (codes "verify"); value_names = 1 }
+
 -- `--command TEXT`, or `-c TEXT`, any number of times
 abbrev pub command_rule : Rule
 command_rule = record (new_rule (codes "command")) {
@@ -66,9 +74,9 @@ with_version = on_top (λ s. record s { has_version = true })
 
 -- `tql [OPTIONS] [SCRIPT]...`, with `--version` and, as every command, `--help`
 unfoldable pub tql_line : App
-tql_line = with_rule (with_rule (with_rule (with_rule (with_rule (with_rule (with_rule (with_rule (with_rule
-    (with_version (new_app (codes "tql"))) check_rule) bail_rule) interactive_rule) quiet_rule) plans_rule)
-    memory_rule) format_rule) command_rule) script_rule
+tql_line = with_rule (with_rule (with_rule (with_rule (with_rule (with_rule (with_rule (with_rule (with_rule (with_rule
+    (with_rule (with_version (new_app (codes "tql"))) check_rule) bail_rule) interactive_rule) quiet_rule) plans_rule)
+    memory_rule) format_rule) journal_rule) verify_rule) command_rule) script_rule
 
 -- the flag that a text sets: `true` or `false`
 pub record TellsFlag (text : Option Text) (flag : Bool) : Type 0 where
@@ -92,6 +100,8 @@ pub record IsLineOf (rows : List Row) (line : CommandLine) : Type 0 where
   pub plans : TellsFlag (one_of (codes "plans") rows) line.plans
   pub memory : option_map (λ s. s.now) line.memory ≡ first_of (codes "memory") rows
   pub format : option_map (λ s. s.now) line.format ≡ first_of (codes "format") rows
+  pub journal : option_map (λ s. s.now) line.journal ≡ first_of (codes "journal") rows
+  pub verify : option_map (λ s. s.now) line.verify ≡ first_of (codes "verify") rows
   pub commands : texts line.commands.items ≡ values_of (codes "command") rows
   pub scripts : texts line.scripts.items ≡ values_of (codes "SCRIPT") rows
 

@@ -10,8 +10,9 @@ dashes = codes "--"
 -- whether a word is an option whose value is the next word: its name, or `-c`, also behind the letters of flags
 abbrev pub takes_value : Text → Bool
 takes_value word = bytes_eq word (codes "--command") || (bytes_eq word (codes "--format")
-    || (bytes_eq word (codes "--memory") || (bytes_eq word (codes "-c") || (bytes_eq word (codes "-ic")
-    || (bytes_eq word (codes "-qc") || (bytes_eq word (codes "-iqc") || bytes_eq word (codes "-qic")))))))
+    || (bytes_eq word (codes "--journal") || (bytes_eq word (codes "--memory") || (bytes_eq word (codes "--verify")
+    || (bytes_eq word (codes "-c") || (bytes_eq word (codes "-ic") || (bytes_eq word (codes "-qc")
+    || (bytes_eq word (codes "-iqc") || bytes_eq word (codes "-qic")))))))))
 
 -- an option and its value as one word: `--command=TEXT`
 abbrev pub pair_joined : Text → Text → Text

@@ -11,7 +11,16 @@ fn takes_value(word: &str) -> bool
 {
     matches!(
         word,
-        "--command" | "--format" | "--memory" | "-c" | "-ic" | "-qc" | "-iqc" | "-qic"
+        "--command"
+            | "--format"
+            | "--journal"
+            | "--memory"
+            | "--verify"
+            | "-c"
+            | "-ic"
+            | "-qc"
+            | "-iqc"
+            | "-qic"
     )
 }
 

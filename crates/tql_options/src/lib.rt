@@ -3,4 +3,5 @@
 
 pub mod joining;
 pub mod options;
+pub mod seals;
 pub mod sizes;

@@ -4,6 +4,7 @@ ghost use Rattle.clap.specs.Words.{FailsBy, app_of, found_of, rows_of, rule_of};
 ghost use Rattle.tql_options.specs.CommandLine.{IsLineOf, Reads, faults_in, texts, tql_line, values_of};
 ghost use Rattle.tql_options.specs.Described.{rule_told, IsGiven};
 ghost use Rattle.tql_options.specs.CommandLine.{bound_of, format_of, input_named, inputs_of, named_format};
+ghost use Rattle.tql_options.specs.Clashes.{asks_run, clash_in};
 ghost use Rattle.tql_options.specs.declared.options.Input.TheVariants as input;
 
 use crate::sizes::bytes_of;
@@ -18,12 +19,12 @@ static VERSION: &str =
 static NOTES: &str =
     "Each statement ends with `;`. Replies go to the standard output; which statements were refused, and why a run
 stopped, go to the standard error. The scripts run in their order, then each TEXT, then with -i the standard input.
-Nothing is kept when the program ends. The language is described in docs/LANGUAGE.md of the sources, which
-`make install` puts into share/doc/tql.
+With --journal what they change is in FILE before its reply leaves; without it nothing is kept when the program ends.
+The language is described in docs/LANGUAGE.md of the sources, which `make install` puts into share/doc/tql.
 
 Exit status:
   0  no statement was refused; also after help and version
-  1  some statement was refused
+  1  some statement was refused; with --verify: FILE was changed, or has no such line
   2  the command line is wrong
   3  opening, reading or writing failed, or memory ran out before the first statement";
 
@@ -40,6 +41,17 @@ pub enum Format {
     Json,
     /// JSON, an object a row.
     Jsonl,
+}
+
+/// Options that exclude each other.
+#[derive(Clone, Copy, PartialEq, Eq)]
+pub enum Clash {
+    /// `--check` runs no query, so it has no plans.
+    CheckAndPlans,
+    /// `--check` changes nothing, so nothing is to be kept.
+    CheckAndJournal,
+    /// `--verify` runs nothing.
+    VerifyAndRun,
 }
 
 /// An input of a run.
@@ -70,6 +82,10 @@ pub struct CommandLine<'a> {
     pub memory: Option<&'a str>,
     /// The word FORMAT: how replies are written.
     pub format: Option<&'a str>,
+    /// The file that `--journal` names. It keeps each statement that changes the database.
+    pub journal: Option<&'a str>,
+    /// The journal that `--verify` names. It is tested, and not run.
+    pub verify: Option<&'a str>,
     /// The words TEXT: scripts.
     pub commands: Vec<&'a str>,
     /// The words SCRIPT: the files of scripts.
@@ -121,6 +137,32 @@ fn push_texts<'a>(inputs: &mut Vec<Input<'a>>, words: &[&'a str]) -> Result<(), 
 }
 
 impl<'a> CommandLine<'a> {
+    /// Whether an option asks for a run, or for a check of statements.
+    fn runs(&self) -> bool
+        ensures { result ≡ asks_run self.now }
+    {
+        self.check
+            || self.plans
+            || self.interactive
+            || self.journal.is_some()
+            || !self.commands.is_empty()
+    }
+
+    /// Returns which options exclude each other, if some do.
+    pub fn clash(&self) -> Option<Clash>
+        ensures { result ≡ clash_in self.now }
+    {
+        if self.verify.is_some() && self.runs() {
+            Some(Clash::VerifyAndRun)
+        } else if self.check && self.plans {
+            Some(Clash::CheckAndPlans)
+        } else if self.check && self.journal.is_some() {
+            Some(Clash::CheckAndJournal)
+        } else {
+            None
+        }
+    }
+
     /// Returns the maximal number of bytes in use: the word SIZE, or `usize::MAX` without it. None if the word is not a
     /// size.
     pub fn most_bytes(&self) -> Option<usize>
@@ -184,7 +226,7 @@ const FLAG: Described<'static> = Described {
 };
 
 /// The arguments, in the order of the help.
-static ARGUMENTS: [Described<'static>; 9] = [
+static ARGUMENTS: [Described<'static>; 11] = [
     Described {
         id: "check",
         long: Some("check"),
@@ -231,6 +273,22 @@ static ARGUMENTS: [Described<'static>; 9] = [
         action: None,
         value: Some("FORMAT"),
         help: "Write replies as table, box, csv, json or jsonl; the default is box at a terminal, else table",
+        ..FLAG
+    },
+    Described {
+        id: "journal",
+        long: Some("journal"),
+        action: None,
+        value: Some("FILE"),
+        help: "Run FILE first, silently, and keep in it each statement that changes the database",
+        ..FLAG
+    },
+    Described {
+        id: "verify",
+        long: Some("verify"),
+        action: None,
+        value: Some("FILE"),
+        help: "Test the journal FILE and print its last line; a SCRIPT is a line to look for in it",
         ..FLAG
     },
     Described {
@@ -323,6 +381,8 @@ fn line_of<'a>(alloc: Global, matches: &ArgMatches<'a>) -> Result<CommandLine<'a
         plans: matches.get_flag("plans"),
         memory: matches.get_str("memory"),
         format: matches.get_str("format"),
+        journal: matches.get_str("journal"),
+        verify: matches.get_str("verify"),
         commands,
         scripts,
     })

@@ -35,6 +35,8 @@ returns c =
       };
       memory = c.get_str.ensures ∙ first_value-rows found (codes "memory");
       format = c.get_str-2.ensures ∙ first_value-rows found (codes "format");
+      journal = c.get_str-3.ensures ∙ first_value-rows found (codes "journal");
+      verify = c.get_str-4.ensures ∙ first_value-rows found (codes "verify");
       commands = c.in_ok-commands.ensures;
       scripts = c.in_ok-scripts.ensures;
     }
