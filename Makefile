@@ -1,5 +1,5 @@
 .PHONY: help quick run build install package check test edits lint lines earned bench-index
-.PHONY: try-copies try-readers try-points try-devices try-fuzz try-growth-times try-plans try-round-trip try-details try-exports try-recipes
+.PHONY: try-copies try-readers try-points try-devices try-fuzz try-growth-times try-plans try-round-trip try-details try-exports try-recipes try-crashes
 .PHONY: map proofs laws mutants words
 .NOTPARALLEL:
 SECONDS ?= 60
@@ -29,7 +29,7 @@ To prove and test:
 To measure and to try at length:
   make bench-index  proves and runs the program that times the indexes; COUNTS="1000 10000" are its numbers of entries
   make try-NAME     copies, readers, points: are the generated cases up to date? devices, fuzz (SECONDS=60), growth-times,
-                    plans (COUNT=1000), round-trip, details, exports, recipes: try ./tql at length
+                    crashes (COUNT=1000), plans (COUNT=1000), round-trip, details, exports, recipes: try ./tql at length
 endef
 export HELP
 
@@ -101,6 +101,9 @@ try-growth-times:
 
 try-plans:
 	@tools/plans.py $(COUNT)
+
+try-crashes:
+	@tools/crashes.py $(or $(COUNT),1000) && tools/crashes.py --restarts 500
 
 try-round-trip:
 	@tools/round_trip.py

@@ -6,8 +6,9 @@ _tql() {
         *:--to) words='mariadb postgresql' ;;
         *:--dates) words='dmy mdy' ;;
         *:--separator) words='tab' ;;
+        tql:--journal | tql:--verify | */tql:--journal | */tql:--verify) pattern='*.jn' ;;
         *:-c | *:--command | *:--memory | *:--key | *:--columns | *:--cents | *:--title) return ;;
-        tql:* | */tql:*) pattern='*.sql' words='--check --bail --interactive --quiet --plans --memory --format --command --help --version' ;;
+        tql:* | */tql:*) pattern='*.sql' words='--check --bail --interactive --quiet --plans --memory --format --journal --verify --command --help --version' ;;
         *tql-csv:*) pattern='*.csv' words='--create --columns --cents --key --period --versioned --at --start --end --separator --decimal --dates
             --encoding --help' ;;
         *tql-cents:*) words='--comma --help' ;;

@@ -1,5 +1,5 @@
 -- The exit status.
-use Rattle.std.specs.Prelude.{◌≡◌, ◌≢◌, ℕ, Result, MatchResult}
+use Rattle.std.specs.Prelude.{◌≡◌, ◌≢◌, ◌||◌, if◌then◌else◌, ℕ, Bool, Result, MatchResult}
 use Rattle.tql_run.specs.declared.runner.Summary.{Summary}
 use Rattle.tql_run.specs.declared.runner.Fault.{Fault}
 use Rattle.clap.specs.declared.error.kind.ErrorKind.{ErrorKind}
@@ -17,3 +17,7 @@ status_of_line kind.DisplayHelp = 0
 status_of_line kind.DisplayVersion = 0
 status_of_line kind.OutOfMemory = 3
 status_of_line _ = 2
+
+-- the status of `--verify` of a file that was read: 1 if it is no journal or lacks the line that was looked up
+abbrev pub status_of_journal : Bool → Bool → ℕ
+status_of_journal is_damaged lacks_line = if is_damaged || lacks_line then 1 else 0

@@ -1,6 +1,7 @@
 //! The inputs of a command line, answered in order by one engine.
 use crate::complaints::{Complaints, Style};
 use crate::engine::Engine;
+use crate::journal::{is_journal, open_kept, say_kept, say_unkept};
 use crate::output::Output;
 use crate::plans::PlansTold;
 use crate::progress::{Progress, STANDARD_INPUT, name_of};
@@ -12,6 +13,7 @@ use std::alloc::{AllocError, Global};
 use std::fs;
 use std::io::{self, BufWriter, ErrorKind, IsTerminal, Read};
 use tql_check::check::Checker;
+use tql_journal_file::opening::Kept;
 use tql_memory::{Memory, memory_within};
 use tql_options::options::{Format, Input};
 use tql_options::sizes::kept_back;
@@ -40,6 +42,8 @@ pub(crate) struct Job<'r, 'i> {
     pub plans: bool,
     /// Whether no line about statements that are done or refused is written to the standard error.
     pub quiet: bool,
+    /// The file of the journal, if one is kept.
+    pub journal: Option<&'i str>,
     /// Whether the first refused statement ends the run.
     pub bail: bool,
     /// The inputs in their order.
@@ -123,6 +127,8 @@ struct Run<'a> {
     job: &'a Job<'a, 'a>,
     progress: &'a Progress<'a>,
     output: Output,
+    /// The sink that keeps what is done, if a journal is kept.
+    kept: Option<Kept<'a>>,
     /// The statements of all inputs so far.
     summary: Summary,
 }
@@ -142,23 +148,38 @@ impl<'a> Run<'a> {
         self.progress.set_statements(self.summary.statements);
     }
 
-    /// Answers an input.
+    /// Answers an input, and keeps what is done in the journal, if there is one.
     fn answer_reader<R: Runner, I: Read + Drop>(
         &mut self,
         responder: &mut R,
         reader: I,
     ) -> Result<(), Fault> {
         let rt = self.job.rt;
-        let writer = BufWriter::new(rt.alloc(), io::writer(rt)).map_err(|_| Fault::Memory)?;
-        let mut sink = StdSink::new(writer);
         let mut source = StdSource::new(reader);
         let mut complaints = Complaints::new(rt, self.job.style(), self.progress);
         let bail = self.job.bail;
+        if let Some(sink) = &mut self.kept {
+            let summary = self
+                .output
+                .run(responder, &mut source, sink, &mut complaints, bail)?;
+            self.add(summary);
+            return Ok(());
+        }
+        let writer = BufWriter::new(rt.alloc(), io::writer(rt)).map_err(|_| Fault::Memory)?;
+        let mut sink = StdSink::new(writer);
         let summary = self
             .output
             .run(responder, &mut source, &mut sink, &mut complaints, bail)?;
         self.add(summary);
         Ok(())
+    }
+
+    /// Reports why the run of an input stopped.
+    fn complain(&self, name: &str, fault: Fault) {
+        match (&self.kept, self.job.journal) {
+            (Some(sink), Some(path)) if sink.has_failed() => say_unkept(self.job.rt, path),
+            _ => complain(self.job.rt, name, fault),
+        }
     }
 
     /// Answers the standard input, with prompts at a terminal.
@@ -170,6 +191,9 @@ impl<'a> Run<'a> {
         }
         let is_prompted = rt.stdout().is_terminal();
         invite(rt, is_prompted);
+        if !self.job.check {
+            say_kept(rt, self.job.journal);
+        }
         if is_prompted {
             let progress = self.progress;
             self.answer_reader(responder, Prompted::new(rt, input, progress))
@@ -190,6 +214,9 @@ impl<'a> Run<'a> {
         responder: &mut R,
         input: Input<'_>,
     ) -> Result<(), Fault> {
+        if is_journal(self.job.rt, self.job.journal, input) {
+            return Err(Fault::Read);
+        }
         let outcome = match input {
             Input::Standard => self.answer_standard(responder),
             Input::Text(text) => self.answer_text(responder, text),
@@ -199,7 +226,7 @@ impl<'a> Run<'a> {
             },
         };
         if let Err(fault) = outcome {
-            complain(self.job.rt, name_of(input), fault);
+            self.complain(name_of(input), fault);
         }
         outcome
     }
@@ -222,11 +249,13 @@ fn answer_by<'a, R: Runner>(
     job: &'a Job<'a, 'a>,
     progress: &'a Progress<'a>,
     responder: &mut R,
+    kept: Option<Kept<'a>>,
 ) -> Result<Summary, Fault> {
     let mut run = Run {
         job,
         progress,
         output: job.output(responder.memory()),
+        kept,
         summary: Summary {
             statements: 0,
             refused: 0,
@@ -251,14 +280,18 @@ fn answer_within(job: &Job<'_, '_>, memory: Memory) -> Result<Summary, Fault> {
     let progress = Progress::new(job.inputs);
     let reserve = kept_back(job.most);
     if job.check {
-        answer_by(job, &progress, &mut Checker::new(memory))
-    } else if job.plans {
-        let engine = Engine::with_reserve(memory, reserve);
+        return answer_by(job, &progress, &mut Checker::new(memory), None);
+    }
+    let mut engine = Engine::with_reserve(memory, reserve);
+    let kept = match job.journal {
+        Some(path) => Some(open_kept(job.rt, path, &mut engine)?),
+        None => None,
+    };
+    if job.plans {
         let mut told = PlansTold::new(job.rt, engine, &progress);
-        answer_by(job, &progress, &mut told)
+        answer_by(job, &progress, &mut told, kept)
     } else {
-        let mut engine = Engine::with_reserve(memory, reserve);
-        answer_by(job, &progress, &mut engine)
+        answer_by(job, &progress, &mut engine, kept)
     }
 }
 

@@ -10,6 +10,7 @@
 mod complaints;
 mod engine;
 mod inputs;
+mod journal;
 mod output;
 mod plans;
 mod progress;
@@ -17,16 +18,19 @@ mod prompts;
 mod runner;
 mod shown;
 mod status;
+mod verify;
 
 use crate::inputs::{Job, answer_job, end_lack};
 use crate::shown::{Shown, shown_words};
 use crate::status::{exit_status, line_status};
+use crate::verify::verify;
 use clap::Error;
 use std::env;
 use std::io::{self, ErrorKind, IsTerminal};
 use std::process::ExitCode;
 use tql_options::joining::joined_words;
-use tql_options::options::{CommandLine, Format, command_line};
+use tql_options::options::{Clash, CommandLine, Format, command_line};
+use tql_options::seals::is_seal;
 use tql_run::runner::Fault;
 
 /// Reports that the word SIZE is not a number of bytes, and returns the exit status.
@@ -47,10 +51,34 @@ fn end_format(rt: &impl Eprint, word: &str) -> u8 {
     2
 }
 
-/// Reports that `--check` and `--plans` exclude each other, and returns the exit status.
-fn end_plans(rt: &impl Eprint) -> u8 {
-    let _ = eprintln!(rt; "error: '--plans' cannot be used with '--check', which runs no query");
+/// Reports options that exclude each other, and returns the exit status.
+fn end_clash(rt: &impl Eprint, clash: Clash) -> u8 {
+    let text = match clash {
+        Clash::CheckAndPlans => "'--plans' cannot be used with '--check', which runs no query",
+        Clash::CheckAndJournal => "'--journal' cannot be used with '--check', which runs nothing",
+        Clash::VerifyAndRun =>
+            "'--verify' runs nothing: beside it stands no '--check', '--plans', '--journal', '-c' or '-i'",
+    };
+    let _ = eprintln!(rt; "error: {text}");
     2
+}
+
+/// Reports that a word is no line of a journal, and returns the exit status.
+fn end_digits(rt: &impl Eprint, word: &str) -> u8 {
+    let word = Shown(word);
+    let _ = eprintln!(rt;
+        "error: '{word}' is no line for '--verify <FILE> [LINE]': 64 digits, 0 to 9 and a to f, and no more words"
+    );
+    2
+}
+
+/// Tests a journal, and looks for the line in it that the words SCRIPT name.
+fn verify_options(rt: &HostRuntime, options: &CommandLine<'_>, path: &str) -> u8 {
+    match options.scripts.as_slice() {
+        [] => verify(rt, path, None),
+        [line] if is_seal(line) => verify(rt, path, Some(line)),
+        [.., word] => end_digits(rt, word),
+    }
 }
 
 /// Runs or checks the inputs that the options name, within this number of bytes of memory and with replies in a format,
@@ -62,6 +90,7 @@ fn run_within(rt: &HostRuntime, options: &CommandLine<'_>, most: usize, format: 
             check: options.check,
             plans: options.plans,
             quiet: options.quiet,
+            journal: options.journal,
             bail: options.bail,
             inputs: inputs.as_slice(),
             most,
@@ -73,8 +102,11 @@ fn run_within(rt: &HostRuntime, options: &CommandLine<'_>, most: usize, format: 
 
 /// Runs or checks the inputs that the options name, and returns the exit status.
 fn run_options(rt: &HostRuntime, options: &CommandLine<'_>) -> u8 {
-    if options.check && options.plans {
-        return end_plans(rt);
+    if let Some(clash) = options.clash() {
+        return end_clash(rt, clash);
+    }
+    if let Some(path) = options.verify {
+        return verify_options(rt, options, path);
     }
     match (
         options.most_bytes(),

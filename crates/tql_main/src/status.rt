@@ -1,7 +1,7 @@
 //! The exit status.
 ghost use Rattle.std.specs.Prelude.{◌≡◌};
 ghost use Rattle.clap.specs.Words.{kind_of};
-ghost use Rattle.tql_main.specs.Status.{IsExitStatus, status_of_line};
+ghost use Rattle.tql_main.specs.Status.{IsExitStatus, status_of_line, status_of_journal};
 
 use clap::Error;
 use clap::error::ErrorKind;
@@ -29,4 +29,12 @@ pub fn line_status(error: &Error) -> u8
         ErrorKind::OutOfMemory => 3,
         _ => 2,
     }
+}
+
+/// Returns the exit status of `--verify` of a file that was read: 1 if it is no journal, or lacks the line that was
+/// looked up, and 0 otherwise.
+pub fn verify_status(is_damaged: bool, lacks_line: bool) -> u8
+    ensures { result ≡ status_of_journal is_damaged lacks_line }
+{
+    if is_damaged || lacks_line { 1 } else { 0 }
 }
