@@ -40,12 +40,12 @@ CRATE = re.compile(r"(?<![\w/.-])(?:tql|test)_[a-z_]*[a-z]\b")
 NAMED = re.compile(r"(?<![\w/:*+-])(?<!\w\.)(?:\.\./)*(?:[\w.+-]+/)*[\w+-]*[\w+](?:\.[\w]+)*(?<!\.)/?")
 FILE = re.compile(r"\.(?:rt|antt|py|sh|md|edit)$")
 # Documents whose names in backticks are those of SQL.
-OF_SQL = ("CHANGELOG.md", "ERRORS.md", "EVIDENCE.md", "LANGUAGE.md", "MOVING.md", "OUTGROWING.md", "POSTGRESQL-FIRST-DAY.md", "QUESTIONS.md", "RECIPES.md")
+OF_SQL = ("CHANGELOG.md", "ERRORS.md", "EVIDENCE.md", "KEEPING.md", "LANGUAGE.md", "MOVING.md", "OUTGROWING.md", "POSTGRESQL-FIRST-DAY.md", "QUESTIONS.md", "RECIPES.md")
 FOLDERS, PARTS = ("crates", "docs", "tools", "benches", "examples"), ("src", "specs", "proofs", "must-fail", "edits", "data")
 ANY_NAME = re.compile(r"(?:^|/)(?:NAME|FOLDER|PATH|CRATE|EDIT|EXAMPLE)(?:[./]|$)")
 # A name of the sources in backticks; the words of the sources, remarks apart; and what no source names.
 QUOTED, REMARK, WORD = re.compile(r"`([A-Za-z_][\w:]*)`"), re.compile(r"^\s*(?://|--).*$", re.M), re.compile(r"[^\W_][\w◌]*|_\w+")
-NO_SOURCE = {"anyhow", "awk", "sed", "sqlite3", "COUNTS", "_", ""}
+NO_SOURCE = {"anyhow", "awk", "sed", "sha256sum", "sqlite3", "COUNTS", "_", ""}
 COUNTED = re.compile(r"^\| `([\w/.]+)` \| (\d+) \|", re.M)
 
 

@@ -15,7 +15,7 @@ from typing import Iterator
 TOP = Path(__file__).resolve().parent.parent
 CASES = TOP / "crates" / "test_cases" / "data" / "cases"
 TOOLS = ("tql-csv", "tql-cents", "tql-timeline", "tql-export")
-PAGES = ("LANGUAGE", "QUESTIONS", "RECIPES", "ERRORS", "MOVING", "EVIDENCE", "POSTGRESQL-FIRST-DAY", "OUTGROWING")
+PAGES = ("LANGUAGE", "QUESTIONS", "RECIPES", "ERRORS", "MOVING", "EVIDENCE", "KEEPING", "POSTGRESQL-FIRST-DAY", "OUTGROWING")
 LINK = re.compile(r"\[([^\[\]]*)\]\(([^()\s]+)\)")
 RUN = re.compile(r"make run SCRIPT=([\w./-]+)")
 
@@ -24,7 +24,7 @@ def documents() -> dict:
     """Returns the files of the documentation, and where each is installed below share/doc/tql."""
     files = {TOP / "docs" / f"{it}.md": Path(f"{it}.md") for it in PAGES if (TOP / "docs" / f"{it}.md").exists()}
     files |= {TOP / it: Path(it) for it in ("LICENSE-APACHE", "LICENSE-MIT", "CHANGELOG.md")}
-    files |= {it: Path("examples") / it.name for it in sorted((TOP / "examples").glob("*.*")) if it.suffix in (".sql", ".py", ".md")}
+    files |= {it: Path("examples") / it.name for it in sorted((TOP / "examples").glob("*.*")) if it.suffix in (".sql", ".py", ".sh", ".md")}
     for folder in ("recipes", "asked", "errors", "moving"):
         files |= {it: Path(folder) / it.name for it in sorted((CASES / folder).glob("*.*")) if it.suffix in (".sql", ".out")}
     return files

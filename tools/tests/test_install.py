@@ -13,7 +13,7 @@ from pathlib import Path
 from common import CASES, TOP, ran, tql
 
 TOOLS = ("tql-csv", "tql-cents", "tql-timeline", "tql-export")
-DOCUMENTS = ("LANGUAGE", "QUESTIONS", "RECIPES", "ERRORS", "MOVING", "EVIDENCE", "POSTGRESQL-FIRST-DAY", "OUTGROWING")
+DOCUMENTS = ("LANGUAGE", "QUESTIONS", "RECIPES", "ERRORS", "MOVING", "EVIDENCE", "KEEPING", "POSTGRESQL-FIRST-DAY", "OUTGROWING")
 LINK = re.compile(r"\]\(([^()\s#]+)(?:#[^()\s]*)?\)")
 # What is typed, and what completes the last word.
 COMPLETED = (

@@ -1,4 +1,4 @@
-"""Runs the pages docs/EVIDENCE.md and docs/POSTGRESQL-FIRST-DAY.md from the top.
+"""Runs the pages docs/EVIDENCE.md, docs/KEEPING.md and docs/POSTGRESQL-FIRST-DAY.md from the top.
 
 A block of SQL that begins with `-- NAME.sql` is that file. A block `sh` runs in the folder of these files, and prints the block `text`
 that follows it. `test_pages.py --write` writes what is printed into the pages; read it before you keep it.
@@ -12,7 +12,7 @@ from pathlib import Path
 
 from common import TOOLS, TOP, ran, tql
 
-PAGES = ("EVIDENCE.md", "POSTGRESQL-FIRST-DAY.md")
+PAGES = ("EVIDENCE.md", "KEEPING.md", "POSTGRESQL-FIRST-DAY.md")
 
 
 def played(page: Path, room: Path) -> str:

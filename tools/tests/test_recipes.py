@@ -43,15 +43,16 @@ class Shell(unittest.TestCase):
         self.shell(next(it for it in self.blocks() if "tql-timeline" in it))
         self.assertEqual((self.room / "pay.svg").read_bytes(), (TOP / "docs" / "pay.svg").read_bytes())
 
-    def test_a_file_is_appended_only_if_it_is_whole(self):
+    def test_a_file_is_kept_only_if_it_is_whole(self):
         block = next(it for it in self.blocks() if "today.sql" in it)
         insert = "INSERT INTO t VALUES (2);\n"
         for today, is_kept in (("START TRANSACTION;\n" + insert, False), (insert + "INSERT INTO u VALUES (2);\n", False), (insert + "SELECT", False),
                                ("START TRANSACTION;\n" + insert + "COMMIT;\n", True), (insert + "-- a comment", True)):
-            (self.room / "books.sql").write_text(BOOKS, encoding="utf-8")
             (self.room / "today.sql").write_text(today, encoding="utf-8")
+            (self.room / "books.jn").unlink(missing_ok=True)
             got = self.shell(block)
-            self.assertEqual((got.returncode == 0, (self.room / "books.sql").read_text(encoding="utf-8")), (is_kept, BOOKS + f"{today}\n" * is_kept), today)
+            kept = (self.room / "books.jn").read_bytes()
+            self.assertEqual((got.returncode == 0, kept.count(b"VALUES (2)")), (is_kept, int(is_kept)), today)
 
 
 if __name__ == "__main__":
