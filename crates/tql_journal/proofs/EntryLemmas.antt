@@ -62,10 +62,12 @@ feeds_of_entry before text =
     omega (arith, a, b, c, d, one, last, line)
 
 digits_more : (start : List ℕ) (xs : List (List ℕ)) (t : List ℕ)
-    → digits_of start (xs ++ t ∷ []) ≡ digits_of start xs ++ hash_words (with_text (journal_bytes hash_words start xs) t) ∷ []
+    → digits_of start (xs ++ t ∷ [])
+    ≡ digits_of start xs ++ hash_words (with_text (journal_bytes hash_words start xs) t) ∷ []
 digits_more start [] t = refl
 digits_more start (x ∷ xs) t =
-    ap {B = List (List ℕ)} (λ z. hash_words (with_text start x) ∷ z) (digits_more (with_statement hash_words start x) xs t)
+    ap {B = List (List ℕ)} (λ z. hash_words (with_text start x) ∷ z)
+    (digits_more (with_statement hash_words start x) xs t)
 
 last_more : (xs : List (List ℕ)) (x : List ℕ) → last_of (xs ++ x ∷ []) ≡ Some x
 last_more [] x = refl

@@ -128,8 +128,8 @@ fn rest_of(bytes: &[u8]) -> Rest
     }
 }
 
-/// Reads a file from its beginning to its end, or to what shows that it was changed. `sought` is the line to look up, in
-/// 64 hexadecimal digits in lower case. It keeps at most 1,114,182 bytes of the file in memory.
+/// Reads a file from its beginning to its end, or to what shows that it was changed. `sought` is the line to look up,
+/// in 64 hexadecimal digits in lower case. It keeps at most 1,114,182 bytes of the file in memory.
 ///
 /// # Errors
 ///

@@ -1,6 +1,6 @@
 //! A sink that keeps statements in a journal, and holds replies back until these are durable.
-ghost use Rattle.std.specs.Prelude.{◌≡◌, ◌≤◌, ◌<◌, [], length, take, true, IfOk, OnOk, OnErr, IsErr, IsFalse, IsTrue, is_ok};
-ghost use Rattle.std.specs.Prelude.{is_err, vec_len};
+ghost use Rattle.std.specs.Prelude.{◌≡◌, ◌≤◌, ◌<◌, [], length, take, true, IfOk, OnOk, OnErr, IsErr, IsFalse, IsTrue};
+ghost use Rattle.std.specs.Prelude.{is_ok, is_err, vec_len};
 ghost use Rattle.tql_result.specs.Devices.{Appends, Counts, HasFailed, is_failed_push, with_text};
 ghost use Rattle.tql_journal.specs.Seals.{HoldsBytes};
 ghost use Rattle.tql_journal_desk.specs.Answered.{AnsweredIsKept};
@@ -84,7 +84,6 @@ pub struct JournalSink<L: Log, O: Out> {
 impl<L: Log, O: Out> Model for JournalSink<L, O> {
     ghost use Rattle.tql_journal.specs.Seals.{HoldsBytes};
     ghost use Rattle.tql_journal_desk.specs.Order.{IfKnown};
-    ghost use Rattle.tql_journal_desk.specs.Held.{held_of};
     ghost use Rattle.tql_journal_desk.specs.Held.{held_of};
     ghost use Rattle.tql_journal_desk.specs.Desks.{Desk, IsInOrder};
 

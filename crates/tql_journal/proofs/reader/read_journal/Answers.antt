@@ -3,7 +3,8 @@ use Rattle.std.specs.Prelude.{◌≤◌, IsFalse}
 use Rattle.tql_journal.specs.Reading.{IsReadOf, IsHeadless, IsRestOf, is_damaged}
 use Rattle.tql_journal.proofs.ReadLemmas.{reads_first, reads_next, read_all, read_headless, loop_ends, room_first}
 use Rattle.tql_journal.proofs.reader.read_journal.Goals as goal
-use Rattle.tql_journal.proofs.reader.read_journal.Goals.{then-loop-may_go_on-test+else-not-is_ended, else-loop-may_go_on-test}
+use Rattle.tql_journal.proofs.reader.read_journal.Goals.{then-loop-may_go_on-test+else-not-is_ended}
+use Rattle.tql_journal.proofs.reader.read_journal.Goals.{else-loop-may_go_on-test}
 use Rattle.tql_journal.proofs.reader.read_journal.Goals.{then-may_go_on, else-may_go_on}
 
 pub returns-in_default : goal.returns-in_default
