@@ -1,5 +1,5 @@
 -- How far a file that is no beginning of a journal is one.
-use Rattle.std.specs.Prelude.{◌+◌, ◌-◌, ◌^◌, ℕ, min}
+use Rattle.std.specs.Prelude.{◌+◌, ◌-◌, ◌^◌, min}
 use Rattle.tql_journal.specs.declared.found.Found.{Found}
 use Rattle.tql_journal_file.specs.declared.fault.Damage.{Damage}
 

@@ -1,7 +1,7 @@
 //! The start of a run with a journal.
 use crate::fault::{Damage, JournalFault};
 use crate::reading::{buffers, read_file, refuse_others};
-use crate::replay::replay;
+use crate::replay::run_silently;
 use std::fs::{File, TryLockError};
 use std::io::{self, Printer, Read, Seek, SeekFrom, Write};
 use std::os::unix::fs::OpenOptionsExt;
@@ -57,7 +57,7 @@ fn run_first<R: Responder>(
     end: u64,
 ) -> Result<bool, JournalFault> {
     file.seek(SeekFrom::Start(0))?;
-    let ran = replay(responder, file.take(end))?;
+    let ran = run_silently(responder, file.take(end))?;
     match (ran.refused, ran.unkept) {
         (Some((line, refusal)), _) => Err(JournalFault::Refused(line, refusal)),
         (None, Some(line)) => Err(JournalFault::Unkept(line)),
@@ -132,7 +132,7 @@ fn roll_back<R: Responder>(responder: &mut R, sink: &mut Kept<'_>) -> Result<(),
 }
 
 /// Returns what a run goes on with after the journal, without an open transaction.
-fn opened<'r, R: Responder>(
+fn closed<'r, R: Responder>(
     responder: &mut R,
     mut sink: Kept<'r>,
     found: &Found,
@@ -155,7 +155,7 @@ fn go_on<'r, R: Responder>(
 ) -> Result<Opened<'r>, JournalFault> {
     let is_open = run_and_mend(rt, path, responder, &mut file, found)?;
     let sink = sink_after(rt, file, found)?;
-    opened(responder, sink, found, is_open)
+    closed(responder, sink, found, is_open)
 }
 
 /// Opens a journal and has a new responder run it, without replies. A file that is missing is made. A statement that

@@ -91,7 +91,7 @@ impl Listener for Replay {
 }
 
 /// Runs a journal up to the first statement that is refused, and writes no reply.
-pub fn replay<R: Responder, I: Read + Drop>(
+pub fn run_silently<R: Responder, I: Read + Drop>(
     responder: &mut R,
     journal: I,
 ) -> Result<Replay, JournalFault> {
