@@ -133,7 +133,7 @@ class Csv(unittest.TestCase):
 
     def test_progress_at_a_terminal_only(self):
         master, slave = pty.openpty()
-        data = "a,b\n" + "".join(f"{it},{it * 7}.5 x\n" for it in range(400000))
+        data = "a,b\n" + "".join(f"{it},{it * 7}.5 x\n" for it in range(1_200_000))
         with subprocess.Popen([TOOLS / "tql-csv", "t"], stdin=subprocess.PIPE, stdout=subprocess.DEVNULL, stderr=slave) as started:
             started.communicate(data.encode())
         os.close(slave)
