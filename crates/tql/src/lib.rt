@@ -17,6 +17,10 @@
 //! `write_csv_table` writes a table as comma-separated values, and `write_json_rows` writes it as JSON Lines.
 //! `write_json_answer` writes an answer as JSON; the `Diagnostic` of a refusal has the parts of a detail.
 //!
+//! To keep the database, a host gives `run_in` or `Session::next_kept` a `JournalSink`, over a `Log` and an `Out`, such
+//! as `FileLog` and `StdOut`. `read_journal` finds the journal that a file begins with; a run of it restores the
+//! database.
+//!
 //! `literal` makes a literal of a value for a statement; it doubles each quote. `Engine::table_count` and
 //! `Engine::table_definition` return the tables with their columns and kinds. `Engine::column_kinds` returns the kinds
 //! of a query's columns before it runs, and `Engine::plan_told` describes its access paths. Days and moments are
@@ -138,6 +142,13 @@ pub use tql_catalog::table_def::TableDef;
 pub use tql_detail::detail::Detail;
 pub use tql_detail::place::Place;
 pub use tql_engine::runner::{run, run_bytes, run_in};
+pub use tql_journal::found::{Found, Rest};
+pub use tql_journal::reader::{ReadFault, read_journal};
+pub use tql_journal::seal::Seal;
+pub use tql_journal_desk::journal::Journal;
+pub use tql_journal_desk::log::{FileLog, Log};
+pub use tql_journal_desk::out::{Out, StdOut};
+pub use tql_journal_desk::sink::JournalSink;
 pub use tql_literal::literal::literal;
 pub use tql_literal::points::{date_text, timestamp_text};
 pub use tql_memory::{Memory, memory, memory_within};
