@@ -19,7 +19,7 @@ To prove and test:
   make test         runs the gate: make lint, the command lines of the program, every proof and every test, from nothing; says what it cost
                     PLAIN=1 runs rt ci as the kit has it (see tools/gate.py), which takes hours with some kits
   make edits        tries the must-fail edits, which the prover must refuse: all, or CRATE=name, or EDIT=name too
-  make lines        tries the command lines of the program and the tools' tests, in some three minutes and without a proof
+  make lines        tries the command lines of the program and the tools' tests, in a minute once make quick is done, and without a proof
   make lint         checks code, documents, their numbers and what each crate costs the gate, in seconds
   make map          prints what each crate is, by area; with CRATE=name what the modules of one are
   make proofs       prints the public functions that have contracts, by area; with CRATE=name those of one, with all that they say

@@ -1,8 +1,10 @@
 """Tests of tql-csv and tql-cents. What some of them make is run by the program too."""
+import contextlib
 import os
 import pty
 import re
 import subprocess
+import threading
 import unittest
 
 from common import TOOLS, TOP, ran, tql
@@ -100,6 +102,26 @@ ASKED = (
 )
 
 
+def shown_at_a_terminal(words: list, given: bytes) -> str:
+    """Returns what a tool shows at a terminal. The terminal is read while the tool works, since a full one would stop it."""
+    master, slave = pty.openpty()
+    shown = []
+
+    def read() -> None:
+        with contextlib.suppress(OSError):
+            while part := os.read(master, 4096):
+                shown.append(part)
+
+    reader = threading.Thread(target=read)
+    with subprocess.Popen(words, stdin=subprocess.PIPE, stdout=subprocess.DEVNULL, stderr=slave) as started:
+        os.close(slave)
+        reader.start()
+        started.communicate(given)
+    reader.join()
+    os.close(master)
+    return b"".join(shown).decode()
+
+
 class Csv(unittest.TestCase):
     def test_made(self):
         for name, data, words, wanted in MADE:
@@ -132,13 +154,8 @@ class Csv(unittest.TestCase):
         self.assertEqual(set(re.search(r'RESERVED = frozenset\("""(.*?)"""', tool, re.S)[1].split()), words)
 
     def test_progress_at_a_terminal_only(self):
-        master, slave = pty.openpty()
         data = "a,b\n" + "".join(f"{it},{it * 7}.5 x\n" for it in range(1_200_000))
-        with subprocess.Popen([TOOLS / "tql-csv", "t"], stdin=subprocess.PIPE, stdout=subprocess.DEVNULL, stderr=slave) as started:
-            started.communicate(data.encode())
-        os.close(slave)
-        self.assertRegex(os.read(master, 65536).decode(), r"^\r(tql-csv: [0-9,]+ rows (read|written)\x1b\[K\r)+\x1b\[K$")
-        os.close(master)
+        self.assertRegex(shown_at_a_terminal([TOOLS / "tql-csv", "t"], data.encode()), r"^\r(tql-csv: [0-9,]+ rows (read|written)\x1b\[K\r)+\x1b\[K$")
 
 
 class Cents(unittest.TestCase):
