@@ -1,13 +1,14 @@
 //! An example program that uses the engine as a library. It runs a script and prints the refused statements. Then it
 //! queries the payments as the table had them at the end of March and now, and adds up the rows of each answer. It also
-//! prints the tables and the kinds of a query's columns, and puts values into a statement.
+//! prints the tables and the kinds of a query's columns, puts values into a statement, and lets two sessions take turns.
 #![tactic(auto)]
 
 use std::alloc::AllocError;
 use std::io;
 use tql::{
-    Engine, Fault, Kind, Memory, Notes, Reply, ResultTable, SliceSource, Summary, TableDef,
-    VecSink, View, date_text, is_day, is_printable, literal, memory_within, read_date, run,
+    Answer, Engine, Fault, Kind, Memory, Notes, Reply, ResultTable, Session, SliceSource, Summary,
+    TableDef, VecSink, View, date_text, is_day, is_printable, literal, memory_within, read_date,
+    run,
 };
 
 /// The maximal number of bytes of memory that the engine may have in use.
@@ -30,6 +31,9 @@ static QUESTIONS: [&[u8]; 2] = [
     b"SELECT * FROM pay FOR SYSTEM_TIME AS OF TIMESTAMP '2011-03-31 23:59:59'",
     b"SELECT * FROM pay",
 ];
+
+/// The most statements that end in one part of a session's bytes.
+const MOST_ANSWERS: usize = 4;
 
 /// Returns the sum of a column of whole numbers, by its number from 0. Other values are ignored.
 fn total(table: &ResultTable, column: usize) -> i64 {
@@ -232,6 +236,51 @@ fn ask_days(rt: &impl Print, memory: Memory, engine: &mut Engine) -> io::Result<
     }
 }
 
+/// Prints the next answer of a clerk's session, if a statement is whole.
+fn print_next(
+    rt: &impl Print,
+    engine: &mut Engine,
+    session: &mut Session,
+    clerk: &str,
+) -> io::Result<()> {
+    match &session.next_answer(engine) {
+        Some(Answer::Replied(reply)) => {
+            print!(rt; "{clerk}: ")?;
+            print_reply(rt, reply)
+        }
+        _ => Ok(()),
+    }
+}
+
+/// Feeds a clerk's session the next part of its bytes, and prints the answers that are due.
+fn take_turn(
+    rt: &impl Print,
+    engine: &mut Engine,
+    session: &mut Session,
+    clerk: &str,
+    part: &[u8],
+) -> io::Result<()> {
+    session.feed(part);
+    for _ in 0..MOST_ANSWERS {
+        print_next(rt, engine, session, clerk)?;
+    }
+    Ok(())
+}
+
+/// Two clerks work at one engine. A statement of Ann's arrives in two parts, and takes effect when it is whole: by then
+/// Bob has opened a transaction, which belongs to the engine. So his ROLLBACK takes back her payment too.
+fn work_together(rt: &impl Print, memory: Memory, engine: &mut Engine) -> io::Result<()> {
+    let mut ann = Session::new(memory)?;
+    let mut bob = Session::new(memory)?;
+    take_turn(rt, engine, &mut ann, "Ann", b"INSERT INTO pay VALUES (4, ")?;
+    let opens = b"START TRANSACTION; INSERT INTO pay VALUES (5, 500);";
+    take_turn(rt, engine, &mut bob, "Bob", opens)?;
+    let rest = b"400); SELECT * FROM pay WHERE employee > 3;";
+    take_turn(rt, engine, &mut ann, "Ann", rest)?;
+    take_turn(rt, engine, &mut bob, "Bob", b"ROLLBACK; COMMIT;")?;
+    take_turn(rt, engine, &mut ann, "Ann", b"SELECT * FROM pay;")
+}
+
 fn main(rt: HostRuntime) -> io::Result<()> {
     let memory = memory_within(rt.alloc(), MOST_BYTES)?;
     let mut engine = Engine::new(memory);
@@ -253,5 +302,6 @@ fn main(rt: HostRuntime) -> io::Result<()> {
         "2011-04-04",
         "O'Hara's books; settled -- so far",
     )?;
-    ask_days(&rt, memory, &mut engine)
+    ask_days(&rt, memory, &mut engine)?;
+    work_together(&rt, memory, &mut engine)
 }
