@@ -4,6 +4,8 @@ use crate::parts::{count, sides, two, view, write_view};
 use crate::stop::Stop;
 use std::alloc::AllocError;
 use std::cmp::Ordering;
+use std::hash::{DefaultHasher, Hasher};
+use tql_digest::{absorb, digest_alone};
 use tql_memory::Memory;
 use tql_value::comparison::{Comparison, compare, order};
 use tql_value::refusal::Refusal;
@@ -126,9 +128,13 @@ fn write_refusal(out: &mut String, refusal: Refusal) -> Result<(), Stop> {
     Ok(())
 }
 
-fn write_earlier(out: &mut String, text: &str) -> Result<(), Stop> {
-    let (a, b) = two(text)?;
-    write!(out, "{}", refusal(a)?.earlier(refusal(b)?).number())?;
+/// Writes the digest of one value, or of two.
+fn write_digest(out: &mut String, text: &str) -> Result<(), Stop> {
+    let digest = match text.split_once(" | ") {
+        None => digest_alone(view(text)?),
+        Some((a, b)) => absorb(absorb(DefaultHasher::new(), view(a)?), view(b)?).finish(),
+    };
+    write!(out, "{digest}")?;
     Ok(())
 }
 
@@ -141,7 +147,12 @@ pub fn answer(memory: Memory, line: &Line<'_>, out: &mut String) -> Result<(), S
         "lengths" => write_lengths(out, memory, line.input),
         "table" => write_table(out, count(line.input)?),
         "refusal" => write_refusal(out, refusal(line.input)?),
-        "earlier" => write_earlier(out, line.input),
+        "earlier" => {
+            let (a, b) = two(line.input)?;
+            write!(out, "{}", refusal(a)?.earlier(refusal(b)?).number())?;
+            Ok(())
+        }
+        "digest" => write_digest(out, line.input),
         _ => Err(Stop::Form),
     }
 }

@@ -1,7 +1,7 @@
 -- A number of 64 bits is the group of a row that is filed by it alone, so a range of numbers is a range of groups.
-use Rattle.std.proofs.Common.{◌≡◌, ℕ, ◌<◌, ◌^◌, ◌-◌, Bool, true, false, List, [], ◌∷◌, refl, sym, ap, subst, ◌∙◌, arith}
+use Rattle.std.proofs.Common.{◌≡◌, ℕ, ◌^◌, ◌-◌, Bool, true, false, List, [], ◌∷◌, refl, sym, ap, subst, ◌∙◌, arith}
 use Rattle.std.proofs.Common.{FitsSigned}
-use Rattle.std.proofs.Math.Facts.{Fits-of_z, to_z-of_z}
+use Rattle.std.proofs.Math.Facts.{to_z-of_z}
 use Rattle.std.proofs.lemmas.Int.{ints, clamps}
 use Rattle.std.specs.Prelude.{ℤ, pos, neg_ℤ, ◌+ℤ◌, ◌*ℤ◌, ◌&&◌, ◌||◌, int_le, int_lt, Option, Some, None, if◌then◌else◌}
 use Rattle.std.specs.Int.{cast_signed, cast_unsigned, int_max, int_min, w64}
@@ -9,20 +9,17 @@ use Rattle.tql_spec.proofs.Members.{both, by_bool}
 use Rattle.tql_spec.specs.Datum.{Datum, Null, Int, Text, Day, Moment, Row, is_null}
 use Rattle.tql_spec.specs.Definition.{cell}
 use Rattle.tql_spec.specs.Period.{Period, share_a_point}
+use Rattle.tql_digest.specs.Digest.{digest}
 use Rattle.tql_index.specs.Spans.{groups_between, in_group}
 use Rattle.tql_store_index.specs.Basis.{IsGroup, in_values, is_between}
 use Rattle.tql_store_index.specs.Places.{fits, fitting_if, whole}
 use Rattle.tql_store_index.specs.Standing.{passes}
-use Rattle.tql_store_index.specs.Tuple.{group_of, mixed}
+use Rattle.tql_store_index.specs.Tuple.{group_of}
 
--- the first number is mixed into nothing
-unmixed : (k : ℕ) → k < 2 ^ 64 → mixed 0 k ≡ k
-unmixed k h = omega (arith, h)
-
-number_is : (n : ℤ) → IsGroup n → cast_signed w64 (mixed 0 (cast_unsigned w64 n)) ≡ n
+number_is : (n : ℤ) → IsGroup n → cast_signed w64 (cast_unsigned w64 n) ≡ n
 number_is n h =
     let f : FitsSigned w64 n = omega (arith, ints, h.low, h.high) in
-    ap (cast_signed w64) (unmixed (cast_unsigned w64 n) (Fits-of_z f).fits) ∙ to_z-of_z f
+    to_z-of_z f
 
 among_groups : (low high n : ℤ) → IsGroup low → IsGroup high → int_le low n ≡ true → int_le n high ≡ true → IsGroup n
 among_groups low high n a b h k = record {
@@ -37,13 +34,14 @@ record IsAmong (low high : ℤ) (d : Datum) : Type 0 where
 
 -- a number between two of 64 bits is its own group
 own_group : (low high n : ℤ) → IsGroup low → IsGroup high → int_le low n && int_le n high ≡ true
-    → int_le low (cast_signed w64 (mixed 0 (cast_unsigned w64 n)))
-    && int_le (cast_signed w64 (mixed 0 (cast_unsigned w64 n))) high ≡ true
+    → int_le low (cast_signed w64 (cast_unsigned w64 n))
+    && int_le (cast_signed w64 (cast_unsigned w64 n)) high ≡ true
 own_group low high n a b h =
     let t = both (int_le low n) (int_le n high) h in
     subst (λ z. int_le low z && int_le z high ≡ true) (sym (number_is n (among_groups low high n a b t.0 t.1))) h
 
 among : (low high : ℤ) (d : Datum) → IsGroup low → IsGroup high → is_between low high d ≡ true → IsAmong low high d
+unfolding digest
 among low high Null a b h = absurd (cc)
 among low high (Int n) a b h = record { not_null = refl; within = own_group low high n a b h }
 among low high (Text t) a b h = absurd (cc)

@@ -3,13 +3,16 @@ ghost use Rattle.std.specs.Prelude.{◌≡◌, if◌then◌else◌, None, Some, 
 ghost use Rattle.std.specs.List.{fold, list_any};
 ghost use Rattle.tql_spec.specs.Truth.{is_true as holds_true};
 ghost use Rattle.tql_spec.specs.Datum.{compare as compared, Equals, is_null as null_of};
+ghost use Rattle.tql_digest.specs.Digest.{absorbed, digest};
 ghost use Rattle.tql_period.specs.Points.{points_of};
 ghost use Rattle.tql_value.specs.Views.{datum_of_view};
 ghost use Rattle.tql_index.specs.Spans.{span_of, in_group};
 ghost use Rattle.tql_store_index.specs.Places.{fitting, fitting_if};
-ghost use Rattle.tql_store_index.specs.Tuple.{is_at, mixed as mixed_of, mixed_with as mixed_with_of, digest};
+ghost use Rattle.tql_store_index.specs.Tuple.{is_at};
 ghost use Rattle.tql_store_index.specs.Tuple.{group_of, in_columns};
 
+use std::hash::{DefaultHasher, Hasher};
+use tql_digest::{absorb, digest_alone};
 use tql_index::span::Span;
 use tql_period::period::Period;
 use tql_row::row::Row;
@@ -37,56 +40,45 @@ pub(crate) fn has_values(columns: &[usize], tuple: &[View<'_>], row: &Row) -> bo
     }
 }
 
-/// Mixes the number `more` into the hash `number`.
-fn mixed(number: u64, more: u64) -> u64
-    ensures { result ≡ mixed_of number more }
-{
-    number.wrapping_mul(1_099_511_628_211).wrapping_add(more)
-}
-
-/// Mixes bytes into the hash `number`.
-fn mixed_with_bytes(number: u64, bytes: &[u8]) -> u64
-    ensures { result ≡ fold mixed_of number bytes.now }
-{
-    let mut mixture = number;
-    for byte in bytes {
-        mixture = mixed(mixture, u64::from(*byte));
-    }
-    mixture
-}
-
-/// Mixes a value into the hash `number`.
-fn mixed_with(number: u64, value: View<'_>) -> u64
-    ensures { result ≡ mixed_with_of number (datum_of_view value.entry) }
-{
-    match value {
-        View::Null => mixed(number, 0),
-        View::Int(value) => mixed(number, value.cast_unsigned()),
-        View::Text(text) => mixed_with_bytes(mixed(number, 1), text.as_bytes()),
-        View::Day(day) => mixed(number, day.cast_unsigned()),
-        View::Moment(moment) => mixed(number, moment.cast_unsigned()),
-    }
-}
-
-/// Mixes the values in these columns of a row into the hash `number`.
-fn digest_of_row(number: u64, columns: &[usize], row: &Row) -> u64
-    ensures { result ≡ digest number (in_columns columns.now row.now) }
+/// Adds the values in these columns of a row to a hash.
+fn absorb_row(hasher: DefaultHasher, columns: &[usize], row: &Row) -> DefaultHasher
+    ensures { result ≡ fold absorbed hasher (in_columns columns.now row.now) }
 {
     match columns.split_first() {
-        None => number,
-        Some((column, columns)) => {
-            digest_of_row(mixed_with(number, row.column(*column)), columns, row)
-        }
+        None => hasher,
+        Some((column, columns)) => absorb_row(absorb(hasher, row.column(*column)), columns, row),
     }
 }
 
-/// Mixes the values of a tuple into the hash `number`.
-fn digest_of_tuple(number: u64, tuple: &[View<'_>]) -> u64
-    ensures { result ≡ digest number (map datum_of_view tuple.now) }
+/// Adds the values of a tuple to a hash.
+fn absorb_tuple(hasher: DefaultHasher, tuple: &[View<'_>]) -> DefaultHasher
+    ensures { result ≡ fold absorbed hasher (map datum_of_view tuple.now) }
 {
     match tuple.split_first() {
-        None => number,
-        Some((value, tuple)) => digest_of_tuple(mixed_with(number, *value), tuple),
+        None => hasher,
+        Some((value, tuple)) => absorb_tuple(absorb(hasher, *value), tuple),
+    }
+}
+
+/// Returns the digest of the values in these columns of a row.
+#[tactic(auto, unfolding(tql_digest::specs::Digest::digest))]
+fn digest_of_row(columns: &[usize], row: &Row) -> u64
+    ensures { result ≡ digest (in_columns columns.now row.now) }
+{
+    match columns.split_first() {
+        Some((column, [])) => digest_alone(row.column(*column)),
+        _ => absorb_row(DefaultHasher::new(), columns, row).finish(),
+    }
+}
+
+/// Returns the digest of the values of a tuple.
+#[tactic(auto, unfolding(tql_digest::specs::Digest::digest))]
+fn digest_of_tuple(tuple: &[View<'_>]) -> u64
+    ensures { result ≡ digest (map datum_of_view tuple.now) }
+{
+    match tuple.split_first() {
+        Some((value, [])) => digest_alone(*value),
+        _ => absorb_tuple(DefaultHasher::new(), tuple).finish(),
     }
 }
 
@@ -109,7 +101,7 @@ pub(crate) fn group_of_row(columns: &[usize], row: &Row) -> Option<i64>
     if has_null(columns, row) {
         None
     } else {
-        Some(digest_of_row(0, columns, row).cast_signed())
+        Some(digest_of_row(columns, row).cast_signed())
     }
 }
 
@@ -117,7 +109,7 @@ pub(crate) fn group_of_row(columns: &[usize], row: &Row) -> Option<i64>
 fn group_of_tuple(tuple: &[View<'_>]) -> i64
     ensures { result ≡ group_of (map datum_of_view tuple.now) }
 {
-    digest_of_tuple(0, tuple).cast_signed()
+    digest_of_tuple(tuple).cast_signed()
 }
 
 /// Returns the span of a period in a group.
