@@ -1,10 +1,11 @@
 -- Ranks compared, and rows sorted by them.
-use Rattle.std.proofs.Common.{◌≡◌, refl, ap, subst, ◌∙◌, ℕ, ◌+◌, ◌<◌, List, [], ◌∷◌, ◌++◌, map, length, arith}
+use Rattle.std.proofs.Common.{◌≡◌, refl, ap, subst, ◌∙◌, ℕ, ◌+◌, ◌<◌, true, false, List, [], ◌∷◌, ◌++◌, map, length}
+use Rattle.std.proofs.Common.{arith}
 use Rattle.std.specs.Prelude.{ℤ}
 use Rattle.std.specs.List.Sorted.{IsSorted, IsSortedBy}
 use Rattle.std.specs.declared.cmp.Ordering.{Ordering}
 use Rattle.std.specs.declared.cmp.Ordering.TheVariants.{Less, Equal, Greater}
-use Rattle.std.specs.Ordering.{int_cmp, is_lt, ordering_then}
+use Rattle.std.specs.Ordering.{int_cmp, is_lt, is_ne, ordering_then}
 use Rattle.std.proofs.lemmas.List.{get_or-map, length-map}
 use Rattle.tql_spec.specs.Datum.{Row, Int, order}
 use Rattle.tql_spec.specs.Definition.{cell}
@@ -20,6 +21,17 @@ then_then : (o p q : Ordering) → ordering_then o (ordering_then p q) ≡ order
 then_then Less p q = refl
 then_then Equal p q = refl
 then_then Greater p q = refl
+
+-- the second comparison decides only if the first is a tie
+pub first_decides : (o p : Ordering) → is_ne o ≡ true → o ≡ ordering_then o p
+first_decides Less p h = refl
+first_decides Equal p h = absurd (cc)
+first_decides Greater p h = refl
+
+pub then_decides : (o p : Ordering) → is_ne o ≡ false → p ≡ ordering_then o p
+then_decides Less p h = absurd (cc)
+then_decides Equal p h = refl
+then_decides Greater p h = absurd (cc)
 
 -- compared by the tuples, then by the starts
 pub rank_by : (cs : List ℕ) (r s : Row) (m n : ℤ)

@@ -38,7 +38,7 @@ fn starts_at(definition: &TableDef, row: &StoredRow<'_>) -> i64
     }
 }
 
-/// Compares two rows by their ranks.
+/// Compares two rows by their ranks. The starts are read only if the tuples tie.
 pub fn compare_ranks(
     definition: &TableDef,
     columns: &[usize],
@@ -48,8 +48,11 @@ pub fn compare_ranks(
     ensures { result ≡ by_columns (rank definition.now columns.now (shown_by a.now))
         (rank definition.now columns.now (shown_by b.now)) }
 {
-    let by_start = starts_at(definition, a).cmp(&starts_at(definition, b));
-    compare_tuples(columns, a, b).then(by_start)
+    let by_tuple = compare_tuples(columns, a, b);
+    if by_tuple.is_ne() {
+        return by_tuple;
+    }
+    starts_at(definition, a).cmp(&starts_at(definition, b))
 }
 
 /// Sorts rows by their ranks.
