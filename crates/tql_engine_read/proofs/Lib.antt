@@ -3,3 +3,4 @@ pub mod Joining
 pub mod KnownKinds
 pub mod ReaderNames
 pub mod ColumnKinds
+pub mod Reading

@@ -7,6 +7,7 @@ use Rattle.std.proofs.lemmas.Int.{ints}
 use Rattle.std.proofs.lemmas.List.Elements.{All-from_recursion}
 use Rattle.tql_spec.specs.Bag.{SameBag, In}
 use Rattle.tql_spec.specs.Calendar.{first_moment, high}
+use Rattle.tql_spec.specs.Datum.{Row}
 use Rattle.tql_spec.specs.Definition.{Stamped, TableDef, Version, shown}
 use Rattle.tql_spec.specs.Expression.{SafeConditionsAreJudged}
 use Rattle.tql_spec.specs.History.{Entry, Now, current, still, completed, table_history, rows_in}
@@ -24,7 +25,6 @@ use Rattle.tql_plan_access.proofs.Untouched.{IsPassedOver, passed_over, seen_and
 use Rattle.tql_store.proofs.StoreLaws.{answers-found}
 use Rattle.tql_store.specs.Represents.{Answers, AnswersBy}
 use Rattle.tql_store.specs.StoreModel.{live, named}
-use Rattle.tql_store_index.specs.Basis.{Sought, is_looked_at}
 use Rattle.tql_versions.specs.Changes.{alive, is_current}
 use Rattle.tql_versions.specs.Readings.{version_shown as version_of, where_open}
 use Rattle.tql_versions.specs.declared.version.Version as code
@@ -100,52 +100,52 @@ current_rows h s t p st e =
 
 -- ---- the rows that a change reads
 
--- the versions of a table that were found by an access path
-abbrev pub IsSeen : EngineModel → Table → Option Sought → List code.Version → Type 0
-IsSeen h p o seen = AnswersBy h.store p.id Now (is_looked_at o) (map version_of seen)
+-- the versions of a table that were found by a test of their stored cells
+abbrev pub IsSeen : EngineModel → Table → (Row → Bool) → List code.Version → Type 0
+IsSeen h p looks seen = AnswersBy h.store p.id Now looks (map version_of seen)
 
--- the rows that the access path selects
-abbrev pub looked_at : Option Sought → List Stamped → List Stamped
-looked_at o rows = filter (λ r. is_looked_at o r.cells) rows
+-- the rows that pass the test
+abbrev pub looked_at : (Row → Bool) → List Stamped → List Stamped
+looked_at looks rows = filter (λ r. looks r.cells) rows
 
 rows_read : (seen : List code.Version) → dml.rows_in seen ≡ map (λ (v : Version). v.row) (map version_of seen)
 rows_read [] = refl
 rows_read (v ∷ vs) = ap {B = List Stamped} (λ xs. (version_of v).row ∷ xs) (rows_read vs)
 
-looked_completed : (o : Option Sought) (rows : List Stamped)
-    → map (λ (v : Version). v.row) (filter (λ (v : Version). is_looked_at o v.row.cells) (completed still rows))
-    ≡ looked_at o rows
-looked_completed o [] = refl
-looked_completed o (r ∷ rows) =
-    either (is_looked_at o r.cells) (filter (λ (v : Version). is_looked_at o v.row.cells) (completed still rows))
-    (looked_completed o rows)
+looked_completed : (looks : Row → Bool) (rows : List Stamped)
+    → map (λ (v : Version). v.row) (filter (λ (v : Version). looks v.row.cells) (completed still rows))
+    ≡ looked_at looks rows
+looked_completed looks [] = refl
+looked_completed looks (r ∷ rows) =
+    either (looks r.cells) (filter (λ (v : Version). looks v.row.cells) (completed still rows))
+    (looked_completed looks rows)
   where
-    either : (b : Bool) (vs : List Version) → map (λ (v : Version). v.row) vs ≡ looked_at o rows
+    either : (b : Bool) (vs : List Version) → map (λ (v : Version). v.row) vs ≡ looked_at looks rows
         → map (λ (v : Version). v.row) (cond b (record { row = r; end = still r } ∷ vs) vs)
-        ≡ cond b (r ∷ looked_at o rows) (looked_at o rows)
+        ≡ cond b (r ∷ looked_at looks rows) (looked_at looks rows)
     either true vs e = ap {B = List Stamped} (λ xs. r ∷ xs) e
     either false vs e = e
 
 -- the rows that were read are the selected rows
-pub seen_rows : (h : EngineModel) (s : State) (t : ℕ) (p : Table) (o : Option Sought) (seen : List code.Version)
-    → StandsFor h s → slice_get h.tables t ≡ Some p → IsSeen h p o seen
-    → SameBag (dml.rows_in seen) (looked_at o (working_rows s t))
-seen_rows h s t p o seen st e answers =
+pub seen_rows : (h : EngineModel) (s : State) (t : ℕ) (p : Table) (looks : Row → Bool) (seen : List code.Version)
+    → StandsFor h s → slice_get h.tables t ≡ Some p → IsSeen h p looks seen
+    → SameBag (dml.rows_in seen) (looked_at looks (working_rows s t))
+seen_rows h s t p looks seen st e answers =
     let same : SameBag (map version_of seen)
-    (filter (λ (v : Version). is_looked_at o v.row.cells) (completed still (working_rows s t))) =
-    subst (λ vs. SameBag (map version_of seen) (filter (λ (v : Version). is_looked_at o v.row.cells) vs))
+    (filter (λ (v : Version). looks v.row.cells) (completed still (working_rows s t))) =
+    subst (λ vs. SameBag (map version_of seen) (filter (λ (v : Version). looks v.row.cells) vs))
     (ap current (seen_law h s t p st e) ∙ now_is s t)
     (answers refl (copies_of h.tables s.history) (working_of h.tables s.transaction) st.stands) in
-    subst (λ xs. SameBag xs (looked_at o (working_rows s t))) (sym (rows_read seen))
-    (subst (SameBag (map (λ (v : Version). v.row) (map version_of seen))) (looked_completed o (working_rows s t))
+    subst (λ xs. SameBag xs (looked_at looks (working_rows s t))) (sym (rows_read seen))
+    (subst (SameBag (map (λ (v : Version). v.row) (map version_of seen))) (looked_completed looks (working_rows s t))
     (same-map (λ (v : Version). v.row) same))
 
 -- together with the others they are all rows
-pub all_rows : (h : EngineModel) (s : State) (t : ℕ) (p : Table) (o : Option Sought) (seen : List code.Version)
-    → StandsFor h s → slice_get h.tables t ≡ Some p → IsSeen h p o seen
-    → SameBag (dml.rows_in seen ++ unseen_of o (working_rows s t)) (working_rows s t)
-all_rows h s t p o seen st e answers =
-    seen_and_unseen o (dml.rows_in seen) (working_rows s t) (seen_rows h s t p o seen st e answers)
+pub all_rows : (h : EngineModel) (s : State) (t : ℕ) (p : Table) (looks : Row → Bool) (seen : List code.Version)
+    → StandsFor h s → slice_get h.tables t ≡ Some p → IsSeen h p looks seen
+    → SameBag (dml.rows_in seen ++ unseen_of looks (working_rows s t)) (working_rows s t)
+all_rows h s t p looks seen st e answers =
+    seen_and_unseen looks (dml.rows_in seen) (working_rows s t) (seen_rows h s t p looks seen st e answers)
 
 -- ---- they are rows of the table
 
@@ -161,15 +161,15 @@ versions_of d (v ∷ vs) f =
     let up = f.0.below in
     (record { cells = f.0.cells; start = (low, omega (arith, ints)) }, versions_of d vs f.1)
 
-pub read_fit : (h : EngineModel) (s : State) (t : ℕ) (p : Table) (o : Option Sought) (seen : List code.Version)
-    → StandsFor h s → slice_get h.tables t ≡ Some p → IsSeen h p o seen
+pub read_fit : (h : EngineModel) (s : State) (t : ℕ) (p : Table) (looks : Row → Bool) (seen : List code.Version)
+    → StandsFor h s → slice_get h.tables t ≡ Some p → IsSeen h p looks seen
     → All (IsVersionOf p.definition) seen
-read_fit h s t p o seen st e answers =
+read_fit h s t p looks seen st e answers =
     All-from_recursion (IsVersionOf p.definition) seen
     (versions_of p.definition seen
-    (rows_fit_same p.definition (looked_at o (working_rows s t)) (dml.rows_in seen)
-    (same-sym (seen_rows h s t p o seen st e answers))
-    (rows_left p.definition (λ (r : Stamped). is_looked_at o r.cells) (working_rows s t)
+    (rows_fit_same p.definition (looked_at looks (working_rows s t)) (dml.rows_in seen)
+    (same-sym (seen_rows h s t p looks seen st e answers))
+    (rows_left p.definition (λ (r : Stamped). looks r.cells) (working_rows s t)
     (working_fit h s t p st e))))
 
 -- ---- the others
@@ -186,11 +186,11 @@ working_shown h s t p st e shown =
     each_shown (r ∷ rows) k = (k r (inl refl), each_shown rows (λ q m. k q (inr m)))
 
 -- the rows that are not selected are passed over
-pub rest_passed : (h : EngineModel) (s : State) (t : ℕ) (p : Table) (o : Option Sought) → StandsFor h s
+pub rest_passed : (h : EngineModel) (s : State) (t : ℕ) (p : Table) (looks : Row → Bool) → StandsFor h s
     → slice_get h.tables t ≡ Some p → AreShown h.store p
-    → AllByRecursion (IsPassedOver p.definition o) (unseen_of o (working_rows s t))
-rest_passed h s t p o st e shown =
-    passed_over p.definition o (working_rows s t) (working_shown h s t p st e shown)
+    → AllByRecursion (IsPassedOver p.definition looks) (unseen_of looks (working_rows s t))
+rest_passed h s t p looks st e shown =
+    passed_over p.definition looks (working_rows s t) (working_shown h s t p st e shown)
 
 -- a current version of the table has a row that the change sees
 version_seen : (h : EngineModel) (s : State) (t : ℕ) (p : Table) (i : ℕ) (v : Version) → StandsFor h s
@@ -206,12 +206,12 @@ version_seen h s t p i v st e at now =
 
 -- a current version whose row is not selected is not affected
 pub version_untouched : SafeConditionsAreJudged → (h : EngineModel) (s : State) (p : Table) (x : Modification)
-    (o : Option Sought) → ServesChange p.definition (portion_in x) (conds_in x) o → AreShown h.store p → StandsFor h s
-    → slice_get h.tables x.table ≡ Some p → (i : ℕ) (v : Version) → named h.store p.id i ≡ Some v
-    → (alive v && is_current v) ≡ true → is_looked_at o v.row.cells ≡ false
+    (looks : Row → Bool) → ServesChange p.definition (portion_in x) (conds_in x) looks → AreShown h.store p
+    → StandsFor h s → slice_get h.tables x.table ≡ Some p → (i : ℕ) (v : Version) → named h.store p.id i ≡ Some v
+    → (alive v && is_current v) ≡ true → looks v.row.cells ≡ false
     → touches p.definition (portion_in x) (conds_in x) v.row ≡ false
-version_untouched law h s p x o serves shown st e i v at now unseen =
+version_untouched law h s p x looks serves shown st e i v at now unseen =
     let row = of_members (IsShown p.definition) (working_rows s x.table) (working_shown h s x.table p st e shown) v.row
     (version_seen h s x.table p i v st e at now) in
-    ap is_yes (untouched law p.definition (portion_in x) (conds_in x) o serves v.row
+    ap is_yes (untouched law p.definition (portion_in x) (conds_in x) looks serves v.row
     (record { row = row; unseen = unseen }))

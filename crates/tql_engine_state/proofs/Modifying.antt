@@ -9,6 +9,7 @@ use Rattle.tql_spec.specs.Calendar.{high}
 use Rattle.tql_spec.specs.Change as change
 use Rattle.tql_spec.specs.Change.{Fate, Outcome, fate, modify}
 use Rattle.tql_spec.specs.ChangeLaws.{SameOutcome, ChangesKeepNoOrder, ChangesByParts}
+use Rattle.tql_spec.specs.Datum.{Row}
 use Rattle.tql_spec.specs.Definition.{Stamped, Version, shown}
 use Rattle.tql_spec.specs.Expression.{SafeConditionsAreJudged}
 use Rattle.tql_spec.specs.Machine.{State, Refused, ChangeRows, step, verb_of_work}
@@ -31,7 +32,6 @@ use Rattle.tql_store.specs.StoreModel.{StoreModel, AreRemovable}
 use Rattle.tql_store.specs.Represents.{Judged}
 use Rattle.tql_store.specs.declared.store.Delta.{Delta}
 use Rattle.tql_store.proofs.Judging.{judged_among, removable_among}
-use Rattle.tql_store_index.specs.Basis.{Sought, is_looked_at}
 use Rattle.tql_versions.specs.Changes.{alive, is_current}
 use Rattle.tql_versions.specs.Readings.{version_shown as version_of}
 use Rattle.tql_versions.specs.declared.version.Version as code
@@ -81,11 +81,11 @@ module _ (law : SafeConditionsAreJudged) (no_order : ChangesKeepNoOrder) (by_par
       (definition_law h s x.table p st there)
 
   -- the outcome for the versions that were read
-  module _ (o : Option Sought) (serves : ServesChange p.definition (portion_in x) (conds_in x) o)
-      (are_shown : AreShown h.store p) (seen : List code.Version) (answers : IsSeen h p o seen) where
+  module _ (looks : Row → Bool) (serves : ServesChange p.definition (portion_in x) (conds_in x) looks)
+      (are_shown : AreShown h.store p) (seen : List code.Version) (answers : IsSeen h p looks seen) where
     -- their rows, and the rows that were not read
     abbrev all : List Stamped
-    all = dml.rows_in seen ++ unseen_of o rows
+    all = dml.rows_in seen ++ unseen_of looks rows
 
     abbrev fates_of : List Stamped → Option (List Fate)
     fates_of rs = map_all (λ r. fate p.definition moment (portion_in x) work (conds_in x) (shown p.definition r)) rs
@@ -94,12 +94,12 @@ module _ (law : SafeConditionsAreJudged) (no_order : ChangesKeepNoOrder) (by_par
     whole = modify p.definition moment all (portion_in x) work (conds_in x)
 
     news : SameNews (fates_of (dml.rows_in seen)) (fates_of all)
-    news = same_news law p.definition (portion_in x) (conds_in x) o serves moment work (dml.rows_in seen)
-        (unseen_of o rows) (rest_passed h s x.table p o st there are_shown)
+    news = same_news law p.definition (portion_in x) (conds_in x) looks serves moment work (dml.rows_in seen)
+        (unseen_of looks rows) (rest_passed h s x.table p looks st there are_shown)
 
     same : SameOutcome whole outcome
     same = no_order p.definition moment all rows (portion_in x) work (conds_in x)
-        (all_rows h s x.table p o seen st there answers)
+        (all_rows h s x.table p looks seen st there answers)
 
     faults_are : (modified p.definition seen x moment).faults ≡ whole.faults
     faults_are = news_faults p.definition (dml.rows_in seen) all (fates_of (dml.rows_in seen)) (fates_of all) news
@@ -135,7 +135,7 @@ module _ (law : SafeConditionsAreJudged) (no_order : ChangesKeepNoOrder) (by_par
       gone = touches p.definition (portion_in x) (conds_in x);
       judged = judged;
       rows = same-sym (rows_made no_order by_parts p.definition moment (portion_in x) work (conds_in x)
-          all rows delta.added.items (all_rows h s x.table p o seen st there answers)
+          all rows delta.added.items (all_rows h s x.table p looks seen st there answers)
           (ap first (sym faults_are) ∙ gives.sound moment)
           (ap (map (λ (r : Stamped). r.cells)) (sym (same_coming (fates_of (dml.rows_in seen)) (fates_of all) news))
           ∙ gives.added moment));
@@ -149,7 +149,7 @@ module _ (law : SafeConditionsAreJudged) (no_order : ChangesKeepNoOrder) (by_par
   modify_told : {result : Result Delta Refusal} (k : Made h.store p x result) (f : spec.Refusal)
       → ((m : ℤ) → first (modified p.definition k.seen x m).faults ≡ Some f)
       → Does h (Refused f) (step s (ChangeRows (modification_of x)))
-  modify_told k f e = modify_refused k.sought k.serves k.shown k.seen k.found.copies f e
+  modify_told k f e = modify_refused k.looks k.serves k.shown k.seen k.found.copies f e
 
   -- whatever the reason for the refusal
   pub modify_errs : (e : Refusal) → Makes h.store p x (Err e) → Refuses h s e (step s (ChangeRows (modification_of x)))
@@ -198,8 +198,8 @@ pub gone_removable : (h : StoreModel) (p : Table) (x : Modification) (delta : De
     → AreRemovable h p.id delta.removed.items
 gone_removable h p x delta k =
     subst (AreRemovable h p.id) (sym k.alters.removed)
-    (removable_among h p.id (λ (v : Version). is_current v && is_looked_at k.sought v.row.cells)
-    (λ v e. (both (is_current v) (is_looked_at k.sought v.row.cells) e).0)
+    (removable_among h p.id (λ (v : Version). is_current v && k.looks v.row.cells)
+    (λ v e. (both (is_current v) (k.looks v.row.cells) e).0)
     (λ (v : code.Version). touches p.definition (portion_in x) (conds_in x) (version_of v).row)
     k.seen k.found.ids k.found.once)
 
@@ -210,10 +210,10 @@ pub gone_judged : SafeConditionsAreJudged → (h : EngineModel) (s : State) (p :
 gone_judged law h s p x delta st e k =
     subst (Judged h.store p.id (touches p.definition (portion_in x) (conds_in x))) (sym k.alters.removed)
     (judged_among h.store p.id (touches p.definition (portion_in x) (conds_in x))
-    (λ (v : Version). is_current v && is_looked_at k.sought v.row.cells) k.seen k.found.ids k.found.once
-    (λ i v at. agree (alive v) (is_current v) (is_looked_at k.sought v.row.cells)
+    (λ (v : Version). is_current v && k.looks v.row.cells) k.seen k.found.ids k.found.once
+    (λ i v at. agree (alive v) (is_current v) (k.looks v.row.cells)
     (touches p.definition (portion_in x) (conds_in x) v.row)
-    (version_untouched law h s p x k.sought k.serves k.shown st e i v at)))
+    (version_untouched law h s p x k.looks k.serves k.shown st e i v at)))
   where
     agree : (a c l g : Bool) → ((a && c) ≡ true → l ≡ false → g ≡ false) → (a && ((c && l) && g)) ≡ (a && (c && g))
     agree true true true g h = refl

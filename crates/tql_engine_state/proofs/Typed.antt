@@ -1,12 +1,13 @@
 -- An engine that does a step of the reference model stays sound, since the step keeps the types of values. What a
 -- change reads has the types of its table.
-use Rattle.std.proofs.Common.{◌≡◌, refl, sym, ap, subst, ◌∙◌, ℕ, List, [], ◌∷◌, Option, Some, None}
+use Rattle.std.proofs.Common.{◌≡◌, refl, sym, ap, subst, ◌∙◌, ℕ, Bool, List, [], ◌∷◌, Option, Some, None}
 use Rattle.std.proofs.Common.{inl, inr}
 use Rattle.std.specs.Prelude.{ℤ, slice_get}
 use Rattle.std.specs.List.{AllByRecursion}
 use Rattle.std.proofs.lemmas.List.Elements.{All-from_recursion}
 use Rattle.tql_spec.specs.Bag.{In}
 use Rattle.tql_spec.specs.Creation.{kinds_of}
+use Rattle.tql_spec.specs.Datum.{Row}
 use Rattle.tql_spec.specs.Definition.{Stamped, TableDef, shown, table_at}
 use Rattle.tql_spec.specs.History.{Entry}
 use Rattle.tql_spec.specs.Machine.{State, Bound, DropTable, Reply, step}
@@ -22,7 +23,6 @@ use Rattle.tql_dml.specs.Alters as dml
 use Rattle.tql_dml.specs.Alters.{AreTyped, portion_in, work_in}
 use Rattle.tql_versions.specs.Readings.{version_shown as version_of}
 use Rattle.tql_versions.specs.declared.version.Version as code
-use Rattle.tql_store_index.specs.Basis.{Sought, is_looked_at}
 use Rattle.tql_engine_state.specs.Effects.{Does}
 use Rattle.tql_engine_state.specs.Stands.{EngineModel, StandsFor, IsSound}
 use Rattle.tql_engine_state.proofs.ChangeKeeps.{working_rows}
@@ -65,14 +65,14 @@ each_typed : (d : TableDef) (found : List code.Version) → ((r : Stamped) → I
 each_typed d [] h = tt
 each_typed d (v ∷ vs) h = (h (version_of v).row (inl refl), each_typed d vs (λ r m. h r (inr m)))
 
-pub read_typed : (h : EngineModel) (s : State) (p : Table) (x : Modification) (o : Option Sought)
+pub read_typed : (h : EngineModel) (s : State) (p : Table) (x : Modification) (looks : Row → Bool)
     (seen : List code.Version)
     → StandsFor h s
     → IsTypedState s
     → IsTypedChange (definitions_of h.tables) (modification_of x) → slice_get h.tables x.table ≡ Some p
-    → IsSeen h p o seen
+    → IsSeen h p looks seen
     → AreTyped p.definition seen x
-read_typed h s p x o seen st typed bound there answers portion =
+read_typed h s p x looks seen st typed bound there answers portion =
     let here : table_at s.definitions x.table ≡ p.definition = definition_law h s x.table p st there in
     let work : IsTypedWork (table_at (definitions_of h.tables) x.table) (portion_in x) (work_in x) = bound in
     let same : table_at (definitions_of h.tables) x.table ≡ p.definition =
@@ -80,8 +80,8 @@ read_typed h s p x o seen st typed bound there answers portion =
     let rows : (r : Stamped) → In r (dml.rows_in seen) → IsTyped p.definition r = λ r m.
     subst (λ (d : TableDef). IsTyped d r) here
     (working_typed s s.definitions s.history s.next s.transaction typed x.table r
-    (in_kept (λ (y : Stamped). is_looked_at o y.cells) r (working_rows s x.table)
-    (member_of_same r (seen_rows h s x.table p o seen st there answers) m)).0) in
+    (in_kept (λ (y : Stamped). looks y.cells) r (working_rows s x.table)
+    (member_of_same r (seen_rows h s x.table p looks seen st there answers) m)).0) in
     record {
       definition = subst IsTypedDefinition here (typed.definitions x.table);
       gives = subst (λ (d : TableDef). IsTypedWork d (portion_in x) (work_in x)) same work;

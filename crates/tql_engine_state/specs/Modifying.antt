@@ -1,6 +1,7 @@
 -- The result of an UPDATE or DELETE, from the versions of its table that were read.
-use Rattle.std.specs.Prelude.{List, map, filter, All, Option, Result, Ok, Err, IfOk, ⊤}
+use Rattle.std.specs.Prelude.{Bool, List, map, filter, All, Result, Ok, Err, IfOk, ⊤}
 use Rattle.tql_spec.specs.Bag.{In}
+use Rattle.tql_spec.specs.Datum.{Row}
 use Rattle.tql_spec.specs.Definition.{Stamped}
 use Rattle.tql_spec.specs.Definition as kept
 use Rattle.tql_bound.specs.declared.change.Modification.{Modification}
@@ -12,7 +13,6 @@ use Rattle.tql_store.specs.StoreModel.{StoreModel, live}
 use Rattle.tql_versions.specs.Changes.{is_current}
 use Rattle.tql_store.specs.Views.{IsFound}
 use Rattle.tql_store.specs.declared.store.Delta.{Delta}
-use Rattle.tql_store_index.specs.Basis.{Sought, is_looked_at}
 use Rattle.tql_versions.specs.declared.version.Version.{Version}
 use Rattle.tql_value.specs.declared.refusal.Refusal.{Refusal}
 use Rattle.tql_value.specs.declared.refusal.Refusal.TheVariants.{OutOfMemory}
@@ -24,14 +24,14 @@ abbrev pub AreShown : StoreModel → Table → Type 0
 AreShown h p =
     (r : Stamped) → In r (map (λ (v : kept.Version). v.row) (filter is_current (live h p.id))) → IsShown p.definition r
 
--- the change or its fault, from the versions that were read; these are the current versions on the access path, and
--- include all that the change can affect
+-- the change or its fault, from the versions that were read; these are the current versions whose stored cells pass a
+-- test, and include all that the change can affect
 pub record Made (h : StoreModel) (p : Table) (x : Modification) (result : Result Delta Refusal) : Type 0 where
-  pub sought : Option Sought
-  pub serves : ServesChange p.definition (portion_in x) (conds_in x) sought
+  pub looks : Row → Bool
+  pub serves : ServesChange p.definition (portion_in x) (conds_in x) looks
   pub shown : AreShown h p
   pub seen : List Version
-  pub found : IsFound h p.id Now (is_looked_at sought) seen
+  pub found : IsFound h p.id Now looks seen
   pub alters : Alters p.id (gone p.definition x seen) (λ m. coming (fates p.definition seen x m))
       (modified p.definition seen x) result
   pub fits : All (IsVersionOf p.definition) seen → AreTyped p.definition seen x

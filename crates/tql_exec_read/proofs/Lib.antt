@@ -1,4 +1,5 @@
 pub mod ByColumns
+pub mod FoundAny
 pub mod Joinings
 pub mod Looked
 pub mod OneOf

@@ -4,6 +4,7 @@
 #![tactic(auto)]
 
 pub mod alternatives;
+pub mod changing;
 pub mod finding;
 pub mod near;
 pub mod pushing;

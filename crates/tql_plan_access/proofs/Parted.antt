@@ -26,7 +26,7 @@ split : (a b : Bool) (n : ℕ) → (a ≡ true → b ≡ false) → cond (a || b
 split true b n h = subst (λ c. n ≡ n + cond c n 0) (sym (h refl)) (omega arith)
 split false b n h = omega arith
 
-either_bag : {X : Type 0} (p q : X → Bool) → ((x : X) → p x ≡ true → q x ≡ false) → (xs : List X)
+pub either_bag : {X : Type 0} (p q : X → Bool) → ((x : X) → p x ≡ true → q x ≡ false) → (xs : List X)
     → SameBag (filter (λ x. p x || q x) xs) (filter p xs ++ filter q xs)
 either_bag p q apart xs = record {
   totals = λ w.
@@ -63,7 +63,7 @@ others_distinct v vs h =
     (and_parts (not (list_any (agree v) vs)) (are_distinct vs) p.1).1
 
 -- a row with the first value has none of the others
-none_later : (column : ℕ) (v : Datum) (vs : List Datum) → are_distinct (v ∷ vs) ≡ true → (cells : Row)
+pub none_later : (column : ℕ) (v : Datum) (vs : List Datum) → are_distinct (v ∷ vs) ≡ true → (cells : Row)
     → is_at (column ∷ []) (v ∷ []) cells ≡ true → has_any column vs cells ≡ false
 none_later column v vs h cells m =
     let same = agrees_is (cell cells column) v (and_parts (agree (cell cells column) v) true m).0 in

@@ -20,7 +20,8 @@ use Rattle.tql_store_index.specs.Basis.{is_looked_at, is_sought}
 use Rattle.tql_store_index.specs.Tuple.{is_at}
 use Rattle.tql_plan_access.specs.Access.{IsRow, ServesChange, ServesTable, first_given, is_within}
 use Rattle.tql_plan_access.specs.Access.{narrowed, period_columns, period_given, safe_part, value_or_null, with_in}
-use Rattle.tql_plan_access.specs.Ranges.{range_given}
+use Rattle.tql_plan_access.specs.Alternatives.{ServesAny, has_any}
+use Rattle.tql_plan_access.specs.Ranges.{ranged_in}
 use Rattle.tql_plan_access.specs.Said.{IsOrRanged, IsPortionBy, IsRangedBy, IsSaidBy, IsSoughtBy, IsSoughtFor}
 use Rattle.tql_plan_access.specs.Said.{IsSoughtForChange}
 use Rattle.tql_plan_access.proofs.ByKey.{given_found, stored_long}
@@ -106,7 +107,7 @@ module _ (d : TableDef) (conds : List Cond) where
       → meets conds (with_generated d.system cells start end) ≡ true → is_looked_at said cells ≡ true
       → is_looked_at o cells ≡ true
   or_ranged_found right is_current None o s cells start end wide m seen =
-      ranged_found right (range_given d is_current conds) o s cells start end wide m
+      ranged_found right (ranged_in d is_current conds) o s cells start end wide m
   or_ranged_found right is_current (Some said) o s cells start end wide m seen =
       ap (λ q. is_looked_at q cells) s ∙ seen
 
@@ -182,10 +183,18 @@ module _ (values : ValuesAreMet) (points : PointsAreMet) (stretches : StretchesA
       record { all = met_found d (safe_part conds) values points stretches right is_current o s }
 
   pub serves_portion : (portion : Period) (o : Option Sought) → IsSoughtForChange d (Some portion) conds o
-      → ServesChange d (Some portion) conds o
+      → ServesChange d (Some portion) conds (is_looked_at o)
   serves_portion portion o s = portion_met d (safe_part conds) values points stretches right portion o s
+
+-- a change touches only rows that meet WHERE, so values of which each such row has one serve it
+pub values_serve : (d : TableDef) (conds : List Cond) (column : ℕ) (values : List Datum)
+    → ServesAny d.system (period_columns d) (length d.columns) conds column values → (portion : Option Period)
+    → ServesChange d portion conds (has_any column values)
+values_serve d conds column values serves portion cells start end r m =
+    let row = with_generated d.system cells start end in
+    serves.all cells start end r (both (is_within d portion row) (meets (safe_part conds) row) m).1
 
 -- a change without a portion touches only rows that meet WHERE, so a lookup that serves the table serves it
 pub serves_plain : (d : TableDef) (conds : List Cond) (o : Option Sought) → ServesTable d conds o
-    → ServesChange d None conds o
+    → ServesChange d None conds (is_looked_at o)
 serves_plain d conds o serves cells start end r m = serves.all cells start end r m

@@ -10,6 +10,7 @@ use Rattle.tql_spec.specs.Bag.{SameBag}
 use Rattle.tql_spec.specs.Calendar.{high}
 use Rattle.tql_spec.specs.Change.{Fate, Untouched, Replaced, Work, fate, fate_where, is_touched, new_rows, outcome_of}
 use Rattle.tql_spec.specs.Change.{replacement, row_faults, touched_count}
+use Rattle.tql_spec.specs.Datum.{Row}
 use Rattle.tql_spec.specs.Definition.{Stamped, TableDef, period_of, shown}
 use Rattle.tql_spec.specs.Expression.{Cond, passes, SafeConditionsAreJudged}
 use Rattle.tql_spec.specs.Period.{Period, share_a_point}
@@ -17,42 +18,41 @@ use Rattle.tql_spec.specs.Words.{◌>>=◌, map_all, with_front}
 use Rattle.tql_spec.proofs.Bags.{same-refl, same-trans, same-append}
 use Rattle.tql_spec.proofs.Members.{by_bool}
 use Rattle.tql_plan_laws.specs.Conjuncts.{meets}
-use Rattle.tql_store_index.specs.Basis.{Sought, is_looked_at}
 use Rattle.tql_plan_access.specs.Access.{IsShown, ServesChange, may_touch, safe_part}
 use Rattle.tql_plan_access.proofs.SafePart.{decides}
 
 -- ---- the rows that are not looked at
 
 -- a row of the table that is not looked at
-pub record IsPassedOver (d : TableDef) (o : Option Sought) (r : Stamped) : Type 0 where
+pub record IsPassedOver (d : TableDef) (looks : Row → Bool) (r : Stamped) : Type 0 where
   pub row : IsShown d r
-  pub unseen : is_looked_at o r.cells ≡ false
+  pub unseen : looks r.cells ≡ false
 
 -- the rows that are not looked at
-abbrev pub unseen_of : Option Sought → List Stamped → List Stamped
-unseen_of o rows = filter (λ r. not (is_looked_at o r.cells)) rows
+abbrev pub unseen_of : (Row → Bool) → List Stamped → List Stamped
+unseen_of looks rows = filter (λ r. not (looks r.cells)) rows
 
 -- the rows of a table that are not looked at are passed over
-pub passed_over : (d : TableDef) (o : Option Sought) (rows : List Stamped)
+pub passed_over : (d : TableDef) (looks : Row → Bool) (rows : List Stamped)
     → AllByRecursion (IsShown d) rows
-    → AllByRecursion (IsPassedOver d o) (unseen_of o rows)
-passed_over d o [] wide = tt
-passed_over d o (r ∷ rows) wide = either (is_looked_at o r.cells) refl (passed_over d o rows wide.1)
+    → AllByRecursion (IsPassedOver d looks) (unseen_of looks rows)
+passed_over d looks [] wide = tt
+passed_over d looks (r ∷ rows) wide = either (looks r.cells) refl (passed_over d looks rows wide.1)
   where
-    either : (b : Bool) → is_looked_at o r.cells ≡ b → AllByRecursion (IsPassedOver d o) (unseen_of o rows)
-        → AllByRecursion (IsPassedOver d o) (cond (not b) (r ∷ unseen_of o rows) (unseen_of o rows))
+    either : (b : Bool) → looks r.cells ≡ b → AllByRecursion (IsPassedOver d looks) (unseen_of looks rows)
+        → AllByRecursion (IsPassedOver d looks) (cond (not b) (r ∷ unseen_of looks rows) (unseen_of looks rows))
     either true e a = a
     either false e a = (record { row = wide.0; unseen = e }, a)
 
 -- the rows that are looked at and the others are together all rows
-pub seen_and_unseen : (o : Option Sought) (seen rows : List Stamped)
-    → SameBag seen (filter (λ (r : Stamped). is_looked_at o r.cells) rows)
-    → SameBag (seen ++ unseen_of o rows) rows
-seen_and_unseen o seen rows b =
-    same-trans (same-append b (same-refl (unseen_of o rows))) (record {
+pub seen_and_unseen : (looks : Row → Bool) (seen rows : List Stamped)
+    → SameBag seen (filter (λ (r : Stamped). looks r.cells) rows)
+    → SameBag (seen ++ unseen_of looks rows) rows
+seen_and_unseen looks seen rows b =
+    same-trans (same-append b (same-refl (unseen_of looks rows))) (record {
       totals = λ w.
-          sum_by-append w (filter (λ (r : Stamped). is_looked_at o r.cells) rows) (unseen_of o rows)
-          ∙ sum_by-filter_both (λ (r : Stamped). is_looked_at o r.cells) (λ r. not (is_looked_at o r.cells)) (λ r. refl)
+          sum_by-append w (filter (λ (r : Stamped). looks r.cells) rows) (unseen_of looks rows)
+          ∙ sum_by-filter_both (λ (r : Stamped). looks r.cells) (λ r. not (looks r.cells)) (λ r. refl)
           w rows;
     })
 
@@ -65,15 +65,15 @@ SameNews (Some fs) (Some gs) = (new_rows fs ≡ new_rows gs) × (touched_count f
 SameNews _ _ = ⊥
 
 module _ (law : SafeConditionsAreJudged) (d : TableDef) (portion : Option Period) (conds : List Cond)
-    (o : Option Sought) (serves : ServesChange d portion conds o) where
+    (looks : Row → Bool) (serves : ServesChange d portion conds looks) where
   -- a row that is passed over is not touched, and the change is not refused because of it
-  unmet : (r : Stamped) → IsPassedOver d o r → may_touch d portion conds (shown d r) ≡ false
+  unmet : (r : Stamped) → IsPassedOver d looks r → may_touch d portion conds (shown d r) ≡ false
   unmet r p = by_bool (may_touch d portion conds (shown d r))
       (λ e. absurd (let k : true ≡ false = sym (serves r.cells r.start high p.row e) ∙ p.unseen in cc))
       (λ e. e)
 
   -- a row that is passed over is not touched
-  pub untouched : (r : Stamped) → IsPassedOver d o r → is_touched d portion conds (shown d r) ≡ Some false
+  pub untouched : (r : Stamped) → IsPassedOver d looks r → is_touched d portion conds (shown d r) ≡ Some false
   untouched r p = by_portion portion (unmet r p)
     where
       by_portion : (q : Option Period) → may_touch d q conds (shown d r) ≡ false
@@ -90,11 +90,11 @@ module _ (law : SafeConditionsAreJudged) (d : TableDef) (portion : Option Period
     abbrev fate_of : Stamped → Option Fate
     fate_of r = fate d m portion work conds (shown d r)
 
-    stays : (r : Stamped) → IsPassedOver d o r → fate_of r ≡ Some Untouched
+    stays : (r : Stamped) → IsPassedOver d looks r → fate_of r ≡ Some Untouched
     stays r p =
         ap (λ q. q >>= λ b. fate_where b (replacement d m portion work (shown d r))) (untouched r p)
 
-    rest_stays : (rest : List Stamped) → AllByRecursion (IsPassedOver d o) rest
+    rest_stays : (rest : List Stamped) → AllByRecursion (IsPassedOver d looks) rest
         → SameNews (Some []) (map_all fate_of rest)
     rest_stays [] a = (refl, refl)
     rest_stays (r ∷ rest) a =
@@ -106,7 +106,7 @@ module _ (law : SafeConditionsAreJudged) (d : TableDef) (portion : Option Period
         more (Some fs) h = h
 
     -- appending rows that are passed over does not change the new rows
-    pub same_news : (seen rest : List Stamped) → AllByRecursion (IsPassedOver d o) rest
+    pub same_news : (seen rest : List Stamped) → AllByRecursion (IsPassedOver d looks) rest
         → SameNews (map_all fate_of seen) (map_all fate_of (seen ++ rest))
     same_news [] rest a = rest_stays rest a
     same_news (r ∷ seen) rest a =

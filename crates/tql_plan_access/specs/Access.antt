@@ -105,12 +105,13 @@ is_within d (Some portion) row = share_a_point (period_of d row) portion
 abbrev pub may_touch : TableDef → Option Period → List Cond → Row → Bool
 may_touch d portion conds row = is_within d portion row && meets (safe_part conds) row
 
--- each row that a change may touch is looked at, whichever moments its generated columns have
-abbrev pub ServesChange : TableDef → Option Period → List Cond → Option Sought → Type 0
-ServesChange d portion conds o =
+-- each row that a change may touch is looked at by this test of its stored cells, whichever moments its generated
+-- columns have
+abbrev pub ServesChange : TableDef → Option Period → List Cond → (Row → Bool) → Type 0
+ServesChange d portion conds looks =
     (cells : Row) (start end : ℤ)
     → IsRow (period_columns d) (length d.columns) (with_generated d.system cells start end)
-    → IsTrue (may_touch d portion conds (with_generated d.system cells start end)) → IsTrue (is_looked_at o cells)
+    → IsTrue (may_touch d portion conds (with_generated d.system cells start end)) → IsTrue (looks cells)
 
 -- ---- a key
 

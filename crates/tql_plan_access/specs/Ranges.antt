@@ -1,5 +1,6 @@
 -- Ranges: a comparison of a column with a literal from below and one from above, as in BETWEEN.
-use Rattle.std.specs.Prelude.{◌≡◌, ℕ, ◌^◌, ◌-◌, ℤ, pos, neg_ℤ, ◌+ℤ◌, ◌-ℤ◌, int_lt, Bool, true, false, not, IsTrue}
+use Rattle.std.specs.Prelude.{◌≡◌, ℕ, ◌^◌, ◌-◌, ℤ, pos, neg_ℤ, ◌+ℤ◌, ◌-ℤ◌, int_lt, Bool, true, false, not, ◌||◌}
+use Rattle.std.specs.Prelude.{IsTrue}
 use Rattle.std.specs.Prelude.{List, [], ◌∷◌, Option, Some, None, is_some, if◌then◌else◌}
 use Rattle.std.specs.List.{find}
 use Rattle.tql_spec.specs.Words.{◌>>=◌}
@@ -117,14 +118,24 @@ pub record RangesAreFound : Type 0 where
 
 -- ---- the column
 
--- whether conjuncts limit a column to a range
-abbrev pub is_ranged : List Cond → ℕ → Bool
-is_ranged conds i = is_some (range_in i conds)
+-- whether a range has few numbers: at most 1,024
+abbrev pub is_narrow : ℤ × ℤ → Bool
+is_narrow range = int_lt (range.1 -ℤ range.0) (pos 1_024)
 
--- the first key or else reference of a table whose only column conjuncts limit to a range
-abbrev pub ranged_in : TableDef → List Cond → Option (List ℕ)
-ranged_in d conds = find (is_single_of (is_ranged conds)) (sought_columns d)
+-- the range, if rows are looked up by it: current rows by any, other versions only by a narrow one, since a lookup by a
+-- range meets the versions of all times
+abbrev pub if_sought_by : Bool → Option (ℤ × ℤ) → Option (ℤ × ℤ)
+if_sought_by is_current None = None
+if_sought_by is_current (Some range) = if is_current || is_narrow range then Some range else None
 
--- the same for current rows; other versions are not looked up by a range
-abbrev pub range_given : TableDef → Bool → List Cond → Option (List ℕ)
-range_given d is_current conds = if is_current then ranged_in d conds else None
+-- the range of a column to which conjuncts limit it, if rows are looked up by it
+abbrev pub range_given : Bool → ℕ → List Cond → Option (ℤ × ℤ)
+range_given is_current i conds = if_sought_by is_current (range_in i conds)
+
+-- whether conjuncts limit a column to such a range
+abbrev pub is_ranged : Bool → List Cond → ℕ → Bool
+is_ranged is_current conds i = is_some (range_given is_current i conds)
+
+-- the first key or else reference of a table whose only column conjuncts limit to such a range
+abbrev pub ranged_in : TableDef → Bool → List Cond → Option (List ℕ)
+ranged_in d is_current conds = find (is_single_of (is_ranged is_current conds)) (sought_columns d)

@@ -8,7 +8,7 @@ use Rattle.tql_catalog.specs.Rows.{AreStoredAt, IsStoredAt}
 use Rattle.tql_plan_laws.specs.Constants.{point_in, stretch_in}
 use Rattle.tql_store_index.specs.Basis.{Sought, Between}
 use Rattle.tql_plan_access.specs.Access.{key_given, narrowed, period_given, safe_part, sought_between, value_or_null}
-use Rattle.tql_plan_access.specs.Ranges.{range_given, range_in}
+use Rattle.tql_plan_access.specs.Ranges.{range_in, ranged_in}
 
 -- ---- a period
 
@@ -48,11 +48,11 @@ abbrev pub IsRangedBy : TableDef → List Cond → Option (List ℕ) → Option 
 IsRangedBy d conds None o = o ≡ None
 IsRangedBy d conds (Some columns) o = IsInRange d conds columns o
 
--- this lookup, if any; else, for current rows, by the range to which conjuncts limit the first key, else the first
--- reference, of one column
+-- this lookup, if any; else by the range to which conjuncts limit the first key, else the first reference, of one
+-- column, for other versions than current rows only if it is narrow
 abbrev pub IsOrRanged : TableDef → List Cond → Bool → Option Sought → Option Sought → Type 0
 IsOrRanged d conds is_current (Some s) o = o ≡ Some s
-IsOrRanged d conds is_current None o = IsRangedBy d conds (range_given d is_current conds) o
+IsOrRanged d conds is_current None o = IsRangedBy d conds (ranged_in d is_current conds) o
 
 -- the lookup for the period, if any, else by a range
 pub record IsUnkeyed (d : TableDef) (conds : List Cond) (is_current : Bool) (IsSaid : Option Sought → Type 0)

@@ -1,11 +1,12 @@
 //! The conjunct by whose alternatives the rows of a table are looked up.
-ghost use Rattle.std.specs.Prelude.{◌≡◌, ◌∷◌, [], All, IfOk, IfSome, IsTrue, length, map, option_map};
+ghost use Rattle.std.specs.Prelude.{◌≡◌, ◌∷◌, [], All, IfOk, IfSome, IsTrue, length, map, Option, option_map};
+ghost use Rattle.tql_spec.specs.Period as periods;
 ghost use Rattle.tql_catalog.specs.Rows.{are_assignable};
 ghost use Rattle.tql_expr.specs.Meaning.{cond, HasCond};
-ghost use Rattle.tql_plan_access.specs.Access.{period_columns};
+ghost use Rattle.tql_plan_access.specs.Access.{period_columns, ServesChange};
 ghost use Rattle.tql_plan_access.specs.Choices.{choice_by, choice_in, chooses};
 ghost use Rattle.tql_plan_access.specs.Alternatives.{AlternativesAreEnough, AreAlternatives, AreChosenBy, ServesAny};
-ghost use Rattle.tql_plan_access.specs.Alternatives.{named, values_of};
+ghost use Rattle.tql_plan_access.specs.Alternatives.{has_any, named, values_of};
 
 use crate::alternatives::{Alternatives, alternatives_at, is_choice};
 use crate::safe::{safe_conjuncts, safe_part_decides};
@@ -81,7 +82,8 @@ fn chosen<'a>(
 
 /// Returns the alternatives of the first conjunct that equates the only column of a key, or of a reference, with one of
 /// several literals. Only the conjuncts before the first that can be out of range are used. Each row that passes the
-/// conjuncts has one of the values. The only error is a refused allocation.
+/// conjuncts has one of the values. A change with these conjuncts touches no other row, and is not refused because of
+/// one. The only error is a refused allocation.
 pub fn alternatives<'a>(
     memory: Memory,
     definition: &TableDef,
@@ -93,6 +95,9 @@ pub fn alternatives<'a>(
     ensures serves { IfOk result (λ o. IfSome o (λ a. ServesAny definition.now.system
         (period_columns definition.now) (length definition.now.columns) (map (cond terms.now) conjuncts.now) a.column
         (values_of a))) }
+    ensures changes { IfOk result (λ o. IfSome o (λ a. (portion : Option periods.Period)
+        → ServesChange definition.now portion (map (cond terms.now) conjuncts.now)
+        (has_any a.column (values_of a)))) }
 {
     constants_are_met();
     let decisive = safe_conjuncts(terms, conjuncts);

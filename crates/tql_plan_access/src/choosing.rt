@@ -4,6 +4,7 @@ ghost use Rattle.tql_catalog.specs.Defined.{IsDefinition};
 ghost use Rattle.tql_catalog.specs.Sought.{sought_columns};
 ghost use Rattle.tql_expr.specs.Meaning.{cond, HasCond};
 ghost use Rattle.tql_period.specs.Points.{points_of};
+ghost use Rattle.tql_store_index.specs.Basis.{is_looked_at};
 ghost use Rattle.tql_plan_access.specs.Access.{first_given, key_given, safe_part, ServesChange, ServesTable, sought_in};
 ghost use Rattle.tql_plan_access.specs.Said.{IsPortionBy, IsSoughtBy, IsSoughtFor, IsSoughtForChange};
 
@@ -20,8 +21,8 @@ use tql_period::period::Period;
 use tql_plan_laws::constants_are_met;
 
 /// Returns a lookup by the first key, else by the first reference, whose columns are all given values by the conjuncts,
-/// narrowed to the period of `said`, if any. If there is none, the access path is `said` alone, or a lookup of current
-/// rows by a range of a single such column if `said` reads all rows.
+/// narrowed to the period of `said`, if any. If there is none, the access path is `said` alone, or a lookup by a range
+/// of a single such column if `said` reads all rows.
 fn keyed<'a>(
     memory: Memory,
     definition: &TableDef,
@@ -50,8 +51,8 @@ fn keyed<'a>(
 /// reference, the path looks up the first such key or reference. For current rows, the path is also restricted to the
 /// rows whose application period contains a constant point, or else overlaps a constant period, if a conjunct says so.
 /// Without any of these, if conjuncts limit the only column of a key, or else of a reference, by two literals of one
-/// kind, the path to current rows is the range between them. Otherwise all rows are scanned. The only error is a
-/// refused allocation.
+/// kind, the path is the range between them; for other versions than current rows only if it has few numbers. Otherwise
+/// all rows are scanned. The only error is a refused allocation.
 pub fn access<'a>(
     memory: Memory,
     definition: &TableDef,
@@ -108,7 +109,7 @@ pub fn change_access<'a>(
 ) -> Result<Access<'a>, AllocError>
     requires { All (HasCond terms.now) conjuncts.now }
     ensures serves { IfOk result (λ a. ServesChange definition.now (option_map points_of portion)
-        (map (cond terms.now) conjuncts.now) a) }
+        (map (cond terms.now) conjuncts.now) (is_looked_at a)) }
     ensures sought { IfOk result (λ a. IsSoughtForChange definition.now (option_map points_of portion)
         (map (cond terms.now) conjuncts.now) a) }
 {

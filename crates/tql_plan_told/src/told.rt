@@ -121,8 +121,8 @@ fn say_period(definition: &TableDef, means: &str, words: &mut Words) -> Result<(
     }
 }
 
-/// Appends the access path of the first reference.
-fn say_sought(
+/// Appends the access path of the first reference, or of the table of a change.
+pub(crate) fn say_sought(
     definition: &TableDef,
     sought: Option<Sought<'_>>,
     words: &mut Words,
@@ -147,7 +147,7 @@ fn say_sought(
 }
 
 /// Appends the key or the reference of a table in whose only column several values are looked up.
-fn say_alternatives(
+pub(crate) fn say_alternatives(
     definition: &TableDef,
     alternatives: &Alternatives<'_>,
     words: &mut Words,
@@ -434,7 +434,7 @@ impl<'t, 'p> Told<'t, '_, '_, 'p> {
         }
     }
 
-    /// Appends the calculation that may be out of range, if the plan is unsafe and has no lookup.
+    /// Appends the calculation that may be out of range, if the plan is unsafe and the first reference has no lookup.
     fn say_reason(&self, words: &mut Words) -> Result<(), AllocError> {
         let is_found = self.plan.access.sought().is_some() || self.plan.alternatives.is_some();
         if self.plan.is_safe || is_found {
@@ -459,8 +459,8 @@ impl<'t, 'p> Told<'t, '_, '_, 'p> {
 /// Describes the plan of a select over these tables: the access path of each table reference, from the left. The first
 /// reference uses a key, a reference or the application period of its table, or is read whole. Each other reference is
 /// joined by an index or a map on columns that ON or WHERE equates with earlier ones, or by comparing all pairs. The
-/// index is not used for many outer rows. If a calculation in ON or WHERE may be out of range and there is no lookup,
-/// the first calculation is named. The only error is a refused allocation.
+/// index is not used for many outer rows. If a calculation in ON or WHERE may be out of range and the first reference
+/// has no lookup, the first calculation is named. The only error is a refused allocation.
 pub fn plan_words(
     memory: Memory,
     catalog: &Catalog,

@@ -4,8 +4,10 @@ ghost use Rattle.std.specs.Prelude.{◌≡◌, ◌<◌, length, slice_get, Some}
 use crate::held::Held;
 use tql_bound::change::{Insertion, Modification, QueryInsertion};
 use tql_dml::modification::{modify, modify_current};
+use tql_exec_read::changing::{current_with_any, few_of};
 use tql_index::index::IntervalIndex;
 use tql_new_rows::insertion::{insert_rows, insert_tuples};
+use tql_plan_access::choices::alternatives;
 use tql_plan_access::choosing::change_access;
 use tql_store::store::Delta;
 use tql_value::refusal::Refusal;
@@ -49,9 +51,30 @@ impl<I: IntervalIndex> Held<'_, I> {
         insert_rows(self.memory, table, &insertion.columns, rows)
     }
 
+    /// Returns the change that an UPDATE or DELETE makes to the current rows of its table, if its access path is all of
+    /// them. If WHERE gives a few values for a column, only the rows with one of them are read: of the others WHERE is
+    /// not true. Otherwise all rows are read where they are stored, and only what is touched takes memory.
+    fn unkeyed_delta(&self, modification: &Modification) -> Result<Delta, Refusal>
+        requires { modification.now.table < length self.now.tables }
+        ensures { (p : Table) → slice_get self.now.tables modification.now.table ≡ Some p
+            → Makes self.now.store p modification.now result }
+    {
+        let table = self.table_at(modification.table);
+        let definition = &table.definition;
+        let terms = &modification.terms;
+        let current = self.store.current(table.id);
+        let found = alternatives(self.memory, definition, terms, &modification.conjuncts)?;
+        match few_of(current.len(), &found) {
+            None => modify_current(self.memory, table, current, modification),
+            Some(values) => {
+                let seen = current_with_any(self.memory, self.store, table.id, values)?;
+                modify(self.memory, table, &seen, modification)
+            }
+        }
+    }
+
     /// Returns the change that an UPDATE or DELETE makes to the current rows of its table. It reads only the rows of
-    /// the access path: of the others WHERE is not true, or they share no point with the portion. If the path is all
-    /// rows, they are read where they are stored, and only what is touched takes memory.
+    /// the access path: of the others WHERE is not true, or they share no point with the portion.
     pub fn delta_of(&self, modification: &Modification) -> Result<Delta, Refusal>
         requires { modification.now.table < length self.now.tables }
         ensures { (p : Table) → slice_get self.now.tables modification.now.table ≡ Some p
@@ -66,10 +89,7 @@ impl<I: IntervalIndex> Held<'_, I> {
             modification.portion,
         )?;
         match access.sought() {
-            None => {
-                let current = self.store.current(table.id);
-                modify_current(self.memory, table, current, modification)
-            }
+            None => self.unkeyed_delta(modification),
             Some(sought) => {
                 let seen = self.store.look(table.id, When::Now, Some(sought))?;
                 modify(self.memory, table, &seen, modification)

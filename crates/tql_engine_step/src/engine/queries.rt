@@ -1,4 +1,4 @@
-//! What hosts may ask about a query before it runs: the types of its columns, and its plan. Nothing changes.
+//! What hosts may ask about a statement before it runs: the types of a query's columns, and its plan. Nothing changes.
 use crate::engine::Engine;
 use tql_index::index::IntervalIndex;
 use tql_memory::Memory;
@@ -21,9 +21,10 @@ impl<I: IntervalIndex> Engine<I> {
         self.held().column_kinds(query)
     }
 
-    /// Returns the access paths of a query in words: of a SELECT or a READ, or of the query of an INSERT. None for any
-    /// other text, for one that is refused before it runs, or if an allocation is refused. The allocations that it
-    /// makes do not count against the budget of `Memory`. Changes nothing.
+    /// Returns the access paths of a query in words: of a SELECT or a READ, or of the query of an INSERT; of an UPDATE
+    /// or DELETE that of its table. None for any other text, for one that is refused before it runs, or if an
+    /// allocation is refused. The allocations that it makes do not count against the budget of `Memory`. Changes
+    /// nothing.
     pub fn plan_told(&self, text: &[u8]) -> Option<String<Memory>> {
         self.held().plan_told(text)
     }

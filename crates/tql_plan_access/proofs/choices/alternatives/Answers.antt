@@ -2,9 +2,10 @@ use Rattle.std.proofs.Common.{◌≡◌, ◌∙◌, ap, map, subst, sym}
 use Rattle.std.specs.Prelude.{Some}
 use Rattle.tql_spec.specs.Definition.{TableDef}
 use Rattle.tql_expr.specs.Meaning.{cond}
-use Rattle.tql_plan_access.specs.Alternatives.{named}
+use Rattle.tql_plan_access.specs.Alternatives.{named, values_of}
 use Rattle.tql_plan_access.specs.Choices.{choice_in}
 use Rattle.tql_plan_access.proofs.Picked.{choice_serves, choice_there}
+use Rattle.tql_plan_access.proofs.Serving.{values_serve}
 use Rattle.tql_plan_access.proofs.choices.alternatives.Goals as goal
 
 pub chosen-requires-clause-chooses : goal.chosen-requires-clause-chooses
@@ -34,3 +35,8 @@ returns-in-Some-clause-serves c =
     ∙ sym (subst (λ (e : TableDef). Some (named t c.in-Some.choice) ≡ choice_in e conds) c.in_ok-singles.ensures.of
     c.in-Some.ensures.choice))
     c.in_ok-found-in-Some.found c.in_ok-found-in-Some.ensures
+
+pub returns-in-Some-clause-changes : goal.returns-in-Some-clause-changes
+returns-in-Some-clause-changes c =
+    values_serve c.args.definition.now (map (cond c.args.terms.now) c.args.conjuncts.now)
+    c.in_ok-found-in-Some.found.column (values_of c.in_ok-found-in-Some.found) (returns-in-Some-clause-serves c)

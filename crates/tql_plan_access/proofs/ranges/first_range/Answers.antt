@@ -10,18 +10,18 @@ use Rattle.tql_plan_access.proofs.ranges.first_range.Goals as goal
 
 pub returns-in-Some-clause-column : goal.returns-in-Some-clause-column
 returns-in-Some-clause-column c =
-    let test = is_ranged (map (cond c.args.terms.now) c.args.conjuncts.now) in
+    let test = is_ranged c.args.is_current (map (cond c.args.terms.now) c.args.conjuncts.now) in
     let items : List ℕ = c.deref-column-items.result.now in
     let i = c.loop-column.column-index in
     let inside : i < length items = search rules in
     let given : is_single_of test (slice_index_or items i 0 ∷ []) ≡ true =
-    ap is_some (sym c.range.ensures ∙ c.in-Some.is) in
+    ap is_some (sym c.range_for.ensures.given ∙ c.in-Some.is) in
     sym (first_single (is_single_of test) items i inside given) ∙ c.loop-column.invariant
     ∙ c.args.singles.now.finds test
 
 pub returns-clause-column : goal.returns-clause-column
 returns-clause-column c =
-    let test = is_ranged (map (cond c.args.terms.now) c.args.conjuncts.now) in
+    let test = is_ranged c.args.is_current (map (cond c.args.terms.now) c.args.conjuncts.now) in
     let items : List ℕ = c.deref-column-items.result.now in
     ap (λ ks. find (is_single_of test) (singles ks))
     (sym (drop_all c.loop-column.column-index items c.loop-column-test.false))

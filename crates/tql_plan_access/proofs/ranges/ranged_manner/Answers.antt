@@ -14,7 +14,7 @@ in_range-requires c =
     let conds = map (cond c.args.terms.now) c.args.conjuncts.now in
     let d = c.args.definition.now in
     let columns = c.in-Some.found.column ∷ [] in
-    (first_is (is_single_of (is_ranged conds)) (are_assignable d) (sought_columns d) columns
+    (first_is (is_single_of (is_ranged c.args.is_current conds)) (are_assignable d) (sought_columns d) columns
     (all_assignable d c.in_ok-singles.ensures.right)
-    (sym (subst (λ (e : TableDef). Some columns ≡ ranged_in e conds) c.in_ok-singles.ensures.of
+    (sym (subst (λ (e : TableDef). Some columns ≡ ranged_in e c.args.is_current conds) c.in_ok-singles.ensures.of
     c.in-Some.ensures.column))).0

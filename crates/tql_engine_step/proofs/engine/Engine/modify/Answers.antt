@@ -41,11 +41,11 @@ make-requires-clause-made g c =
             (gone_removable h.store p x c.in-Ok.delta made);
         fit = λ q there. subst (λ (y : Table). All (IsRowOf y.definition) c.in-Ok.delta.added.items)
             (some_is p q (sym t.1 ∙ there))
-            (made.fits (read_fit h s x.table p made.sought made.seen st t.1 made.found.copies)
-            (read_typed h s p x made.sought made.seen st typed c.requires.typed t.1 made.found.copies));
+            (made.fits (read_fit h s x.table p made.looks made.seen st t.1 made.found.copies)
+            (read_typed h s p x made.looks made.seen st typed c.requires.typed t.1 made.found.copies));
       };
       makes = λ s st. modify_makes c.safe_conditions.ensures c.changes_keep_no_order.ensures c.changes_by_parts.ensures
-          h s p x st t.1 c.requires.below made.sought made.serves made.shown made.seen made.found.copies c.in-Ok.delta
+          h s p x st t.1 c.requires.below made.looks made.serves made.shown made.seen made.found.copies c.in-Ok.delta
           c.verb_of-verb.result (sym (c.verb_of-verb.ensures x.terms))
           (subst (λ i. Judged h.store i (touches p.definition (portion_in x) (conds_in x)) c.in-Ok.delta.removed.items)
           (sym made.alters.table)
@@ -75,5 +75,5 @@ returns-in-Ok g c s st =
     (gone_judged c.safe_conditions.ensures h s p x c.in-Ok.delta st t.1 made) in
     c.make.ensures s (modification_of x) st
     (modify_makes c.safe_conditions.ensures c.changes_keep_no_order.ensures c.changes_by_parts.ensures h s p x st t.1
-    c.requires.below made.sought made.serves made.shown made.seen made.found.copies c.in-Ok.delta c.verb_of-verb.result
+    c.requires.below made.looks made.serves made.shown made.seen made.found.copies c.in-Ok.delta c.verb_of-verb.result
     (sym (c.verb_of-verb.ensures x.terms)) judged made.alters)
