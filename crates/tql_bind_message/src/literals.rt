@@ -100,6 +100,27 @@ fn midnight_day(text: &str) -> Option<&str> {
     }
 }
 
+/// Whether a byte is of the form `YYYY-MM-DD` at this position.
+fn fits_form(place: usize, byte: u8) -> bool {
+    match place {
+        4 | 7 => byte == b'-',
+        _ => byte.is_ascii_digit(),
+    }
+}
+
+/// Whether a text has the form `YYYY-MM-DD`.
+fn has_day_form(text: &str) -> bool {
+    for (place, byte) in text.as_bytes().iter().enumerate() {
+        if !fits_form(place, *byte) {
+            return false;
+        }
+    }
+    text.len() == 10
+}
+
+/// The hint for a day of the right form that is not in the calendar.
+const NO_SUCH_DAY: &str = "there is no such day from 0001-01-01 to 9999-12-31";
+
 /// Adds what was probably meant by the text of a DATE of another form.
 fn push_meant_date(memory: Memory, words: &mut Words, text: &str) -> Result<(), AllocError> {
     if text.eq_ignore_ascii_case("infinity") {
@@ -107,6 +128,9 @@ fn push_meant_date(memory: Memory, words: &mut Words, text: &str) -> Result<(), 
     }
     if let Some(day) = midnight_day(text) {
         return push_date(words, day);
+    }
+    if has_day_form(text) {
+        return words.push_str(NO_SUCH_DAY);
     }
     if let Some(date) = date_of_parts(memory, text, 0, 5, 8)? {
         return push_date(words, date.as_str());
@@ -133,6 +157,9 @@ fn push_meant_timestamp(memory: Memory, words: &mut Words, text: &str) -> Result
     let (Some(day), Some(time)) = (text.get(..10), text.get(11..)) else {
         return Ok(());
     };
+    if has_day_form(day) && read_date(day).is_none() {
+        return words.push_str(NO_SUCH_DAY);
+    }
     if time.starts_with("24:") {
         return words.push_str("hours are from 00 to 23; midnight is 00:00:00 of the next day");
     }

@@ -247,7 +247,9 @@ fn exact_detail(
         push_shown(&mut words, reference)?;
         let name = meant(memory, reference)?;
         if begins_with(text, "SELECT") && catalog.place_of(name.as_str()).is_some() {
-            hint.push_str("add the table to FROM")?;
+            hint.push_str("join it: write JOIN ")?;
+            push_shown(&mut hint, reference)?;
+            hint.push_str(" ON and a condition")?;
         }
     } else if about.cause == Cause::LooseColumn && is_column_alone(text, about.at) {
         push_shown(&mut words, piece(text, about.at))?;

@@ -226,18 +226,44 @@ fn splits_number(text: &[u8], place: usize) -> bool {
     is_before && is_behind && !goes_on
 }
 
-/// Whether a text has a number with a comma before its last three digits, outside of quotes.
-fn has_split_number(text: &str) -> bool {
+/// Returns the position of the first comma before the last three digits of a number in a text, outside of quotes.
+fn split_place(text: &str) -> Option<usize> {
     let bytes = text.as_bytes();
     let mut is_open = false;
     for (place, byte) in bytes.iter().enumerate() {
         if *byte == b'\'' {
             is_open = !is_open;
         } else if *byte == b',' && !is_open && splits_number(bytes, place) {
-            return true;
+            return Some(place);
         }
     }
-    false
+    None
+}
+
+/// Whether a character is no digit.
+fn is_no_digit(character: char) -> bool {
+    !character.is_ascii_digit()
+}
+
+/// Returns the digits before and after the comma of a number in a text, outside of quotes, and the text after them.
+fn split_number(text: &str) -> Option<(&str, &str, &str)> {
+    let place = split_place(text)?;
+    let before = text.get(..place)?;
+    let front = match before.rsplit_once(is_no_digit) {
+        Some((_, digits)) => digits,
+        None => before,
+    };
+    let start = place.saturating_add(1);
+    let end = start.saturating_add(3);
+    Some((front, text.get(start..end)?, text.get(end..)?))
+}
+
+/// Whether a number goes on after three of its digits with a comma and a digit.
+fn goes_on(rest: &str) -> bool {
+    match rest.as_bytes() {
+        [comma, digit, ..] => *comma == b',' && digit.is_ascii_digit(),
+        _ => false,
+    }
 }
 
 /// Whether a row has a value too many for each generated column of a table.
@@ -269,10 +295,27 @@ fn push_count_hint(
         push_column(words, table, end)?;
         return words.push_str(" are generated: leave them out");
     }
-    if has_split_number(text) {
-        return words.push_str("a number has no commas: 1,000 is two values");
+    match split_number(text) {
+        Some((_, _, rest)) if goes_on(rest) => words.push_str("a number has no commas"),
+        Some((front, back, _)) => {
+            write!(words, "{front},{back} is two values: write {front}{back}")
+        }
+        None => Ok(()),
     }
-    Ok(())
+}
+
+/// Adds the period whose portion may be changed in place of one of SYSTEM_TIME, if the table has one.
+fn push_portion_hint(
+    memory: Memory,
+    words: &mut Words,
+    text: &str,
+    catalog: &Catalog,
+) -> Result<(), AllocError> {
+    let Some(period) = only_period(memory, text, catalog)? else {
+        return Ok(());
+    };
+    words.push_str("what was recorded cannot be changed: name the period ")?;
+    push_shown(words, period)
 }
 
 /// Adds what to write for a name or a value at a place where it means nothing.
@@ -286,6 +329,10 @@ pub fn push_slip_hint(
     match about.cause {
         Cause::NoColumn => push_column_hint(memory, words, text, catalog, about),
         Cause::CellCount => push_count_hint(memory, words, text, catalog, about),
+        Cause::PortionOfSystem => push_portion_hint(memory, words, text, catalog),
+        Cause::NotOnePeriod | Cause::NoSystemTime => {
+            push_other_name(words, text, piece(text, about.at))
+        }
         _ => Ok(()),
     }
 }
@@ -359,5 +406,9 @@ pub fn push_group_hint(words: &mut Words, text: &str, offset: u32) -> Result<(),
     }
     words.push_str("write GROUP BY ")?;
     push_shown(words, piece(text, offset))?;
-    words.push_str(", or leave it out")
+    words.push_str(", or leave it out")?;
+    if has_word(text, "MAX") || has_word(text, "MIN") {
+        words.push_str(" (for the row that has the value see RECIPES, The first rows)")?;
+    }
+    Ok(())
 }

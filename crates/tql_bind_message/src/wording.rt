@@ -95,7 +95,7 @@ fn of_form(cause: Cause) -> &'static str {
         Cause::PortionOfSystem =>
             "FOR PORTION OF takes an application period, not SYSTEM_TIME; what was recorded cannot be changed",
         Cause::TableReferenced => "table {table} references {at}; drop {table} first",
-        Cause::TooManyTables => "there are already 1000 tables; drop one first",
+        Cause::TooManyTables => "there are already 1000 tables, and no more are allowed",
         Cause::TooManyReaders => "256 readers are open; close one first",
         Cause::NoReader => "no reader {at} is open",
         Cause::ReaderThere => "reader {at} is already open",

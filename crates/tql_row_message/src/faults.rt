@@ -64,6 +64,15 @@ fn advise_end(detail: &mut Detail, definition: &TableDef, column: usize) -> Resu
     }
 }
 
+/// Sets the hint of a column of an INSERT that is NULL since the list of columns lacks it. `listed` has the numbers of
+/// the columns of the list.
+fn advise_unlisted(detail: &mut Detail, listed: &[usize], column: usize) -> Result<(), AllocError> {
+    if listed.iter().any(|number| *number == column) {
+        return Ok(());
+    }
+    detail.advise("the list of columns lacks it: add it there, and a value to the row")
+}
+
 /// Appends a period that does not rise: `: VALID from 2025-01-01 to 2024-01-01 does not rise`.
 fn tell_fallen(detail: &mut Detail, cells: &Cells<'_>) -> Result<(), AllocError> {
     detail.words.push_str(": ")?;
@@ -94,7 +103,12 @@ fn tell_check(
 }
 
 /// Appends why a row fails, after the row itself.
-fn tell_failed(detail: &mut Detail, cells: &Cells<'_>, failed: Failed) -> Result<(), AllocError> {
+fn tell_failed(
+    detail: &mut Detail,
+    cells: &Cells<'_>,
+    failed: Failed,
+    listed: Option<&[usize]>,
+) -> Result<(), AllocError> {
     match failed {
         Failed::LongText(stored) => {
             let column = column_number(cells, stored);
@@ -105,6 +119,9 @@ fn tell_failed(detail: &mut Detail, cells: &Cells<'_>, failed: Failed) -> Result
             let column = column_number(cells, stored);
             push_null(&mut detail.words, cells, column)?;
             advise_end(detail, cells.definition, column)?;
+            if let Some(listed) = listed {
+                advise_unlisted(detail, listed, column)?;
+            }
             add_columns(detail, cells.definition, &[column])
         }
         Failed::Period => tell_fallen(detail, cells),
@@ -116,17 +133,19 @@ fn tell_failed(detail: &mut Detail, cells: &Cells<'_>, failed: Failed) -> Result
     }
 }
 
-/// Returns the detail of a row that is invalid by itself (E30 and E32 to E34). None if there is no memory for it.
+/// Returns the detail of a row that is invalid by itself (E30 and E32 to E34). `listed` has the numbers of the columns
+/// to which an INSERT gives values. None if there is no memory for it.
 pub fn fault_detail(
     memory: Memory,
     subject: Subject,
     cells: &Cells<'_>,
     failed: Failed,
+    listed: Option<&[usize]>,
 ) -> Option<Detail> {
     let mut detail = Detail::of(String::new(memory));
     detail.row = subject.row();
     push_subject(&mut detail.words, subject, cells).ok()?;
-    tell_failed(&mut detail, cells, failed).ok()?;
+    tell_failed(&mut detail, cells, failed, listed).ok()?;
     Some(detail)
 }
 

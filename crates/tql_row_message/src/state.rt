@@ -48,7 +48,8 @@ pub fn clock_detail(memory: Memory, clock: i64, last: Option<i64>) -> Option<Det
     }
     let words = with_moment(memory, "the last commit was at ", last?).ok()?;
     let mut detail = Detail::of(words);
-    detail.advise("write a later moment").ok()?;
+    let hint = "write a later moment: a late correction is recorded when it is made";
+    detail.advise(hint).ok()?;
     Some(detail)
 }
 

@@ -6,7 +6,7 @@
 //!
 //! One rule holds for every hint: none replaces a statement that keeps all rows by one that changes or deletes rows. If
 //! nothing here does the same, the hint says what is missing. If the advice reaches further, the hint says so.
-use crate::matching::{end_with, fits, is_near, is_plain};
+use crate::matching::{begin_alike, end_with, fits, is_near, is_plain};
 use tql_lex::token::Token;
 
 /// A habit: the tokens before the place where reading stopped, the beginning of the text from there on, and the hint.
@@ -20,7 +20,7 @@ struct Hint(&'static str, &'static str, &'static str);
 
 const ALL_MOMENTS: &str = "write BETWEEN, with the first and the last moment";
 
-const ALL_ROWS: &str = "all rows are printed: there is no limit";
+const ALL_ROWS: &str = "there is no limit: see RECIPES, The first rows";
 
 const A_COMMA: &str = "write a comma in place of AND";
 
@@ -34,7 +34,7 @@ const CENTS: &str = "write BIGINT, in the smallest unit: whole cents";
 
 const FOREIGN: &str = "write FOREIGN KEY (x) REFERENCES t (x)";
 
-const FROM_TO: &str = "write FROM .. TO .., without the second point";
+const FROM_TO: &str = "write FROM .. TO ..: the second point is not included";
 
 const FROM_SELECT: &str = "write CREATE TABLE, then INSERT from SELECT";
 
@@ -46,7 +46,7 @@ const IN_PERIOD: &str = "for a period write its name first, then CONTAINS";
 
 const IN_KEY: &str = "write a key, as UNIQUE (x), in CREATE TABLE";
 
-const LAST_COMMA: &str = "leave the last comma out";
+const LAST_COMMA: &str = "leave the comma before it out";
 
 const LISTED: &str = "write the columns in parentheses";
 
@@ -56,7 +56,9 @@ const LENGTH: &str = "write VARCHAR(n), with n up to 65,535";
 
 const MISSING_KEYS: &str = "there is no ON CONFLICT: INSERT only rows with new keys";
 
-const MOMENT: &str = "write a moment: TIMESTAMP 'YYYY-MM-DD HH:MM:SS'";
+pub(crate) const DAY: &str = "write DATE 'YYYY-MM-DD'";
+
+pub(crate) const MOMENT: &str = "write a moment: TIMESTAMP 'YYYY-MM-DD HH:MM:SS'";
 
 const NAMES: &str = "write names in double quotes";
 
@@ -92,7 +94,7 @@ const NO_PORTION: &str = "write WHERE, and that the period CONTAINS the day";
 
 const NO_PREPARED: &str = "there are no prepared statements";
 
-const NO_QUOTIENT: &str = "there is no division: divide in your program";
+const NO_QUOTIENT: &str = "there is no division: see RECIPES, Averages";
 
 const NO_SUBQUERY: &str = "write a join, or several queries";
 
@@ -108,7 +110,7 @@ const NULL_APART: &str = "write OR x IS NULL";
 
 const NUMBERS: &str = "write the number in each INSERT";
 
-const ON_MISSING: &str = "ON and a condition are missing";
+const ON_MISSING: &str = "ON and a condition are missing (CROSS JOIN has none)";
 
 const ONLY_ROW: &str = "only ROW START and ROW END are generated";
 
@@ -120,11 +122,13 @@ const OWN_TABLE: &str = "UPDATE reads its own table only";
 
 const PERIOD_BEFORE: &str = "write PERIOD before the parenthesis";
 
-const POINT: &str = "write DATE '..' or TIMESTAMP '..'";
+pub(crate) const POINT: &str = "write DATE '..' or TIMESTAMP '..'";
 
 const PRIMARY: &str = "write it after a comma: PRIMARY KEY (x)";
 
 const PRUNING: &str = "write PRUNE HISTORY BEFORE TIMESTAMP '..', for all tables";
+
+const READER_MISSING: &str = "the name of the reader is missing";
 
 const ROW_LISTED: &str = "write each row in parentheses";
 
@@ -139,6 +143,8 @@ const SPAN_FIRST: &str = "write it before the table's other name";
 const STRAIGHT: &str = "write straight quotes: 'text'";
 
 const SYSTEM: &str = "write PERIOD FOR SYSTEM_TIME (s, e)";
+
+const TO_MISSING: &str = "TO and the second point are missing";
 
 const TWO_QUERIES: &str =
     "write two queries: a LEFT JOIN, and the other table's rows without a partner";
@@ -156,7 +162,7 @@ const WHOLE: &str = "only the whole transaction can be rolled back";
 const WRITE_COLUMNS: &str = "write the columns";
 
 /// The habits of whole statements.
-static STATEMENTS: [Hint; 85] = [
+static STATEMENTS: &[Hint] = &[
     // The beginning of a statement.
     Hint("^", "\u{feff}", "remove the byte order mark"),
     Hint("^", "BEGIN", "write START TRANSACTION"),
@@ -197,6 +203,9 @@ static STATEMENTS: [Hint; 85] = [
     Hint("^", "REVOKE", NO_USERS),
     Hint("^ OPEN", "_", "write OPEN READER and a name"),
     Hint("^ CLOSE", "_", "write CLOSE READER and a name"),
+    Hint("^ OPEN READER", "", READER_MISSING),
+    Hint("^ CLOSE READER", "", READER_MISSING),
+    Hint("^ READ", "", READER_MISSING),
     Hint("^ READ _", "", "write a query after the name of the reader"),
     Hint("^ AT", "", MOMENT),
     Hint("^ PRUNE HISTORY BEFORE", "", MOMENT),
@@ -220,6 +229,8 @@ static STATEMENTS: [Hint; 85] = [
     Hint("FOR PORTION", "", "write FOR PORTION OF, then the period"),
     Hint("PORTION OF _", "BETWEEN", FROM_TO),
     Hint("PORTION OF _", "(", FROM_TO),
+    Hint("PORTION OF _ FROM DATE '", "", TO_MISSING),
+    Hint("PORTION OF _ FROM TIMESTAMP '", "", TO_MISSING),
     Hint(
         "UPDATE ..",
         "FOR PORTION",
@@ -247,7 +258,11 @@ static STATEMENTS: [Hint; 85] = [
     Hint("VALUES", "'", ROW_LISTED),
     Hint("VALUES", "_", ROW_LISTED),
     Hint("VALUES ..", "PERIOD", "write the two ends, as two values"),
-    Hint("VALUES .. ) ,", "^", LAST_COMMA),
+    Hint(
+        "VALUES .. ) ,",
+        "^",
+        "a row is missing, or leave the last comma out",
+    ),
     Hint("INSERT ..", "ON DUPLICATE", INSERT_MISSING),
     Hint("INSERT ..", "ON CONFLICT", MISSING_KEYS),
     Hint("INSERT ..", "ORDER", UNORDERED),
@@ -259,7 +274,7 @@ static STATEMENTS: [Hint; 85] = [
 ];
 
 /// The habits of CREATE TABLE and its columns.
-static TABLES: [Hint; 52] = [
+static TABLES: &[Hint] = &[
     // CREATE.
     Hint("^ CREATE", "OR REPLACE VIEW", NO_VIEW),
     Hint("^ CREATE", "OR", "leave OR REPLACE out"),
@@ -274,6 +289,7 @@ static TABLES: [Hint; 52] = [
     Hint("CHECK ..", "SELECT", "a CHECK reads its own row only"),
     Hint("CREATE .. (", "SELECT", WRITE_COLUMNS),
     Hint("^ CREATE TABLE _", "AS", FROM_SELECT),
+    Hint("^ CREATE TABLE _", "_", LISTED),
     Hint("CREATE .. )", "AS SELECT", FROM_SELECT),
     // The columns of a table.
     Hint("ALWAYS AS", "IDENTITY", NUMBERS),
@@ -317,7 +333,7 @@ static TABLES: [Hint; 52] = [
 ];
 
 /// The habits of keys, references, checks, periods and moments.
-static ELEMENTS: [Hint; 51] = [
+static ELEMENTS: &[Hint] = &[
     // Keys, references, checks and periods.
     Hint("ON DELETE", "", NO_ACTION),
     Hint("ON UPDATE", "", NO_ACTION),
@@ -343,6 +359,7 @@ static ELEMENTS: [Hint; 51] = [
     Hint("CREATE ..", "KEY", NO_INDEX),
     Hint("PERIOD", "SYSTEM_TIME", SYSTEM),
     Hint("CREATE .. PERIOD", "_", "write PERIOD FOR and its name"),
+    Hint("PERIOD FOR", "(", "the name of the period is missing"),
     Hint("CREATE ..", "PARTITION", NO_PARTITIONS),
     Hint("CREATE ..", "ENGINE", "leave ENGINE out"),
     Hint("^ CREATE TABLE _ ( _", "_", TYPES),
@@ -374,15 +391,15 @@ static ELEMENTS: [Hint; 51] = [
     Hint("AS OF", "", "write FOR SYSTEM_TIME AS OF TIMESTAMP '..'"),
     Hint("FOR", "UPDATE", "leave FOR UPDATE out"),
     Hint("SELECT .. FOR", "_", NO_PORTION),
-    Hint("DATE", "#", "write DATE 'YYYY-MM-DD'"),
-    Hint("DATE", "\"", "write DATE 'YYYY-MM-DD'"),
+    Hint("DATE", "#", DAY),
+    Hint("DATE", "\"", DAY),
     Hint("TIMESTAMP", "#", MOMENT),
     Hint("TIMESTAMP", "\"", MOMENT),
     Hint("INTERVAL", "", "there is no arithmetic of days and moments"),
 ];
 
 /// The habits of queries, expressions and conditions.
-static QUERIES: [Hint; 64] = [
+static QUERIES: &[Hint] = &[
     // Queries.
     Hint("", "LIMIT", ALL_ROWS),
     Hint("", "OFFSET", ALL_ROWS),
@@ -394,6 +411,7 @@ static QUERIES: [Hint; 64] = [
         "there is no DISTINCT ON: write MIN or MAX, with GROUP BY",
     ),
     Hint("COUNT (", ")", "write COUNT(*)"),
+    Hint("COUNT ( _", ",", "COUNT takes one column, or *"),
     Hint("(", "DISTINCT", "write SELECT DISTINCT, and count its rows"),
     Hint("(", "SELECT", NO_SUBQUERY),
     Hint("FROM", "(", NO_SUBQUERY),
@@ -429,6 +447,10 @@ static QUERIES: [Hint; 64] = [
     Hint("IN .. ,", "NULL", NULL_APART),
     Hint("IS", "TRUE", "write the condition alone"),
     Hint("IS", "FALSE", "write NOT before the condition"),
+    Hint("IS", "#", "write = in place of IS"),
+    Hint("IS", "'", "write = in place of IS"),
+    Hint("IS NOT", "#", "write <> in place of IS NOT"),
+    Hint("IS NOT", "'", "write <> in place of IS NOT"),
     Hint("CASE", "", NO_CASE),
     Hint("", "WHEN", NO_CASE),
     Hint("", "LIKE", NO_PATTERN),
@@ -456,7 +478,7 @@ static QUERIES: [Hint; 64] = [
 ];
 
 /// Slips in queries, expressions and conditions: what is missing, and what was probably meant.
-static SLIPS: [Hint; 55] = [
+static SLIPS: &[Hint] = &[
     // Periods and moments.
     Hint("=", "PERIOD", "write EQUALS in place of ="),
     Hint("<>", "PERIOD", "write NOT before it, and EQUALS"),
@@ -486,6 +508,7 @@ static SLIPS: [Hint; 55] = [
     Hint("", "\u{201d}", STRAIGHT),
     Hint("#", ", #", "write the number without a comma"),
     Hint("SELECT .. _ _", ".", "is a comma missing before the name?"),
+    Hint("^ SELECT _", "_ _", "is a comma missing before the name?"),
     // The end of a statement, and ON.
     Hint("BETWEEN # AND", "^", "the upper bound is missing"),
     Hint("BETWEEN _ AND", "^", "the upper bound is missing"),
@@ -494,11 +517,11 @@ static SLIPS: [Hint; 55] = [
     Hint("AND", "^", "a condition is missing after AND"),
     Hint("OR", "^", "a condition is missing after OR"),
     Hint("WHERE", "^", "a condition is missing after WHERE"),
-    Hint("NOT", "^", "a condition is missing after NOT"),
     Hint("HAVING", "^", "a condition is missing after HAVING"),
     Hint("ON", "^", "a condition is missing after ON"),
     Hint("IS", "^", "NULL is missing"),
     Hint("IS NOT", "^", "NULL is missing"),
+    Hint("NOT", "^", "a condition is missing after NOT"),
     Hint("BETWEEN #", "^", BOUNDS),
     Hint("BETWEEN DATE '", "^", BOUNDS),
     Hint("BETWEEN TIMESTAMP '", "^", BOUNDS),
@@ -506,6 +529,7 @@ static SLIPS: [Hint; 55] = [
     Hint("TIMESTAMP ' BETWEEN _", "^", IN_PERIOD),
     Hint("BETWEEN _", "^", BOUNDS),
     Hint("WHERE _", "^", "a comparison is missing"),
+    Hint("NOT _", "^", "a comparison is missing"),
     Hint("OR _", "^", "a comparison is missing"),
     Hint("OR #", "^", "write the column and the sign again"),
     Hint("OR '", "^", "write the column and the sign again"),
@@ -517,8 +541,9 @@ static SLIPS: [Hint; 55] = [
     Hint("JOIN _ AS _", "WHERE", ON_MISSING),
 ];
 
-/// Keywords, each with the tokens before it and the question for a word that is nearly the same.
-static KEYWORDS: [Hint; 18] = [
+/// Keywords, each with the tokens before it and the question for a word that is nearly the same. A word that begins a
+/// statement has the first letter of the keyword, so that SELETE is not taken for DELETE.
+static KEYWORDS: &[Hint] = &[
     Hint("^", "SELECT", "did you mean SELECT?"),
     Hint("^", "INSERT", "did you mean INSERT?"),
     Hint("^", "UPDATE", "did you mean UPDATE?"),
@@ -561,19 +586,19 @@ pub(crate) fn habit_hint(
     behind: &[Token<'_>],
     rest: &str,
 ) -> Option<&'static str> {
-    if let Some(says) = first_hint(&STATEMENTS, before, behind, rest) {
+    if let Some(says) = first_hint(STATEMENTS, before, behind, rest) {
         return Some(says);
     }
-    if let Some(says) = first_hint(&TABLES, before, behind, rest) {
+    if let Some(says) = first_hint(TABLES, before, behind, rest) {
         return Some(says);
     }
-    if let Some(says) = first_hint(&ELEMENTS, before, behind, rest) {
+    if let Some(says) = first_hint(ELEMENTS, before, behind, rest) {
         return Some(says);
     }
-    if let Some(says) = first_hint(&QUERIES, before, behind, rest) {
+    if let Some(says) = first_hint(QUERIES, before, behind, rest) {
         return Some(says);
     }
-    first_hint(&SLIPS, before, behind, rest)
+    first_hint(SLIPS, before, behind, rest)
 }
 
 /// Returns the question for the keyword that was probably meant by the first word of `behind`, if it is nearly one that
@@ -585,8 +610,9 @@ pub(crate) fn keyword_hint(before: &[Token<'_>], behind: &[Token<'_>]) -> Option
     if !is_plain(word) {
         return None;
     }
-    for hint in &KEYWORDS {
-        if end_with(before, hint.0) && is_near(word.text, hint.1) {
+    for hint in KEYWORDS {
+        let may_differ = hint.0 != "^" || begin_alike(word.text, hint.1);
+        if may_differ && end_with(before, hint.0) && is_near(word.text, hint.1) {
             return Some(hint.2);
         }
     }

@@ -2,6 +2,7 @@
 #![tactic(auto)]
 
 mod hints;
+mod literals;
 mod matching;
 mod places;
 mod slips;

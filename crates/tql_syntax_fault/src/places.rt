@@ -124,11 +124,17 @@ fn is_literal_meant(word: &Token<'_>, next: &Token<'_>) -> bool {
     matches!(next.kind, TokenKind::Quote) && is_plain(word) && is_near(word.text, "TIMESTAMP")
 }
 
+/// Whether a statement that sets the clock begins with these words.
+fn is_clock(word: &Token<'_>, next: &Token<'_>) -> bool {
+    word.is_word("AT") && next.is_word("TIMESTAMP")
+}
+
 /// Whether a word before a `(` was read as a name, or a word between two operands as an alias of the first. BY is like
 /// the second operand.
 fn is_alias(last: &Token<'_>, behind: &[Token<'_>]) -> bool {
     match behind {
         [word, next, ..] if is_literal_meant(word, next) => true,
+        [word, next, ..] if is_clock(word, next) => ends_operand(last),
         [word, open, ..] if is_plain(word) && open.is_sign(Symbol::Open) => !last.is_word("OF"),
         [word, next, ..] => {
             ends_operand(last)

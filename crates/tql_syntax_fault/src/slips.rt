@@ -1,18 +1,18 @@
 //! Slips that are found by more than a few tokens: parentheses, commas and semicolons that are missing or too many.
-use crate::matching::{is_name, is_plain};
+use crate::matching::{begin_with, is_name, is_plain};
 use crate::places::{LITERALS, are_create, ends_operand, is_one_of, is_type};
 use tql_lex::token::{Symbol, Token, TokenKind};
 
 /// Hints for a symbol that is missing or too many.
 const NOT_OPEN: &str = "no parenthesis is open";
 
-const NOT_CLOSED: &str = "a parenthesis is not closed";
-
 const COMMA: &str = "a comma is missing before it";
 
 const COMPARED_TWICE: &str = "write two comparisons with AND";
 
 const SEMICOLON: &str = "is a ; missing before it?";
+
+const TWICE: &str = "write a quote inside a text twice";
 
 /// Returns the number of parentheses that are open after these tokens.
 fn open_count(tokens: &[Token<'_>]) -> usize {
@@ -27,21 +27,50 @@ fn open_count(tokens: &[Token<'_>]) -> usize {
     count
 }
 
-/// Whether a statement begins with these tokens. Its first word is reserved, so it is not a name.
+/// The tokens with which a statement begins. Words that are no reserved words may be names too, so those have a second
+/// token, except for COMMIT and ROLLBACK.
+static BEGINNINGS: &[&str] = &[
+    "SELECT",
+    "INSERT INTO",
+    "UPDATE _",
+    "DELETE FROM",
+    "CREATE TABLE",
+    "DROP TABLE",
+    "START TRANSACTION",
+    "COMMIT",
+    "ROLLBACK",
+    "AT TIMESTAMP",
+    "PRUNE HISTORY",
+    "OPEN READER",
+    "CLOSE READER",
+    "READ _ SELECT",
+];
+
+/// Whether a statement begins with these tokens.
 fn begin_statement(tokens: &[Token<'_>]) -> bool {
-    let [first, next, ..] = tokens else {
-        return false;
-    };
-    if first.is_word("SELECT") {
-        return true;
-    }
-    match next.kind {
-        TokenKind::Word | TokenKind::QuotedName => {
-            first.is_word("INSERT") && next.is_word("INTO")
-                || first.is_word("DELETE") && next.is_word("FROM")
-                || is_one_of(first, "CREATE DROP") && next.is_word("TABLE")
-                || first.is_word("UPDATE") && is_name(next)
+    for beginning in BEGINNINGS {
+        if begin_with(tokens, beginning) {
+            return true;
         }
+    }
+    false
+}
+
+/// Whether these are the tokens of a query without FROM, with READ before it or not.
+pub(crate) fn lacks_from(tokens: &[Token<'_>]) -> bool {
+    let is_query = match tokens {
+        [read, _, select, ..] if read.is_word("READ") => select.is_word("SELECT"),
+        [first, ..] => first.is_word("SELECT"),
+        [] => false,
+    };
+    is_query && !tokens.iter().any(|token| token.is_word("FROM"))
+}
+
+/// Whether these are the tokens of a COMMIT or a ROLLBACK.
+fn are_end(tokens: &[Token<'_>]) -> bool {
+    match tokens {
+        [first] => is_one_of(first, "COMMIT ROLLBACK"),
+        [first, second] => is_one_of(first, "COMMIT ROLLBACK") && second.is_word("WORK"),
         _ => false,
     }
 }
@@ -51,13 +80,25 @@ fn may_end(tokens: &[Token<'_>]) -> bool {
     let Some(last) = tokens.last() else {
         return false;
     };
-    if open_count(tokens) != 0 {
+    if open_count(tokens) != 0 || lacks_from(tokens) {
         return false;
     }
     if are_create(tokens) {
         last.is_sign(Symbol::Close) || last.is_word("VERSIONING")
     } else {
         ends_operand(last) || last.is_word("NULL")
+    }
+}
+
+/// Whether a word follows a text in quotes at once, as in `'O'Neil`.
+fn is_touching(before: &[Token<'_>], behind: &[Token<'_>]) -> bool {
+    match (before, behind) {
+        ([.., text], [word, ..]) => {
+            matches!(text.kind, TokenKind::Quote)
+                && is_plain(word)
+                && text.start.saturating_add(text.text.len()) == word.start
+        }
+        _ => false,
     }
 }
 
@@ -125,20 +166,43 @@ fn is_compared_twice(before: &[Token<'_>], behind: &[Token<'_>]) -> bool {
     }
 }
 
-/// Returns what is missing or too many at the place where reading stopped, if known: by the tokens before the place,
-/// those from there on, and the text from there on.
-pub(crate) fn slip_hint(
-    before: &[Token<'_>],
-    behind: &[Token<'_>],
-    rest: &str,
-) -> Option<&'static str> {
+/// Returns the token after the last parenthesis that is not closed, if there is one.
+pub(crate) fn first_inside<'a>(tokens: &'a [Token<'a>]) -> Option<&'a Token<'a>> {
+    let mut closed = 0usize;
+    let mut following: Option<&Token<'_>> = None;
+    for token in tokens.iter().rev() {
+        if token.is_sign(Symbol::Close) {
+            closed = closed.saturating_add(1);
+        } else if token.is_sign(Symbol::Open) {
+            if closed == 0 {
+                return following;
+            }
+            closed = closed.saturating_sub(1);
+        }
+        following = Some(token);
+    }
+    None
+}
+
+/// Returns the question for a missing semicolon, if a statement begins after a COMMIT or a ROLLBACK.
+pub(crate) fn end_hint(before: &[Token<'_>], behind: &[Token<'_>]) -> Option<&'static str> {
+    if are_end(before) && begin_statement(behind) {
+        Some(SEMICOLON)
+    } else {
+        None
+    }
+}
+
+/// Returns what is missing or too many at the place where reading stopped, if known: by the tokens before the place and
+/// those from there on.
+pub(crate) fn slip_hint(before: &[Token<'_>], behind: &[Token<'_>]) -> Option<&'static str> {
     let is_close = behind
         .first()
         .is_some_and(|token| token.is_sign(Symbol::Close));
-    if rest.is_empty() && open_count(before) != 0 {
-        Some(NOT_CLOSED)
-    } else if is_close && open_count(before) == 0 {
+    if is_close && open_count(before) == 0 {
         Some(NOT_OPEN)
+    } else if is_touching(before, behind) {
+        Some(TWICE)
     } else if lacks_value_comma(before, behind) || lacks_column_comma(before, behind) {
         Some(COMMA)
     } else if is_compared_twice(before, behind) {

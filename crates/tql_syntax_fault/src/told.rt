@@ -1,8 +1,9 @@
 //! Messages for the place where reading a text stopped.
 use crate::hints::{habit_hint, keyword_hint};
+use crate::literals::literal_hint;
 use crate::matching::is_plain;
 use crate::places::{LITERALS, is_name_meant, is_one_of, shown_place};
-use crate::slips::slip_hint;
+use crate::slips::{end_hint, first_inside, lacks_from, slip_hint};
 use std::alloc::AllocError;
 use tql_detail::detail::Detail;
 use tql_detail::place::Place;
@@ -18,23 +19,13 @@ const QUOTED: &str = "write it in double quotes";
 
 const FUNCTIONS: &str = "the only functions are COUNT, SUM, MIN and MAX";
 
-const NO_CALL: &str = "write DATE '..' or TIMESTAMP '..', without parentheses";
+pub(crate) const NO_CALL: &str = "write DATE '..' or TIMESTAMP '..', without parentheses";
 
 const NO_TABLE: &str = "FROM and a table are missing";
 
 /// Returns the text before this byte offset.
 fn front_of(text: &str, end: usize) -> &str {
     text.get(..end).unwrap_or("")
-}
-
-/// Whether these are the tokens of a query without FROM, with READ before it or not.
-fn lacks_from(before: &[Token<'_>]) -> bool {
-    let is_query = match before {
-        [read, _, select, ..] if read.is_word("READ") => select.is_word("SELECT"),
-        [first, ..] => first.is_word("SELECT"),
-        [] => false,
-    };
-    is_query && !before.iter().any(|token| token.is_word("FROM"))
 }
 
 /// Whether a call of an unknown function follows these tokens of a statement other than CREATE.
@@ -81,6 +72,9 @@ fn hint_for(before: &[Token<'_>], behind: &[Token<'_>], rest: &str) -> Option<&'
     if let Some(says) = keyword_hint(before, behind) {
         return Some(says);
     }
+    if let Some(says) = end_hint(before, behind) {
+        return Some(says);
+    }
     if let Some(says) = habit_hint(before, behind, rest) {
         return Some(says);
     }
@@ -89,7 +83,7 @@ fn hint_for(before: &[Token<'_>], behind: &[Token<'_>], rest: &str) -> Option<&'
     } else if rest.is_empty() && lacks_from(before) {
         Some(NO_TABLE)
     } else {
-        slip_hint(before, behind, rest)
+        slip_hint(before, behind)
     }
 }
 
@@ -130,6 +124,40 @@ fn words_of(memory: Memory, behind: &[Token<'_>], rest: &str) -> Result<Words, A
     Ok(words)
 }
 
+/// Sets the hint that a parenthesis among these tokens is not closed, if one is open.
+fn advise_close(detail: &mut Detail, tokens: &[Token<'_>]) -> Result<(), AllocError> {
+    let Some(token) = first_inside(tokens) else {
+        return Ok(());
+    };
+    let mut says = String::from_str(*detail.words.allocator(), "the parenthesis before \"")?;
+    push_shown(&mut says, token.text)?;
+    says.push_str("\" is not closed")?;
+    detail.hint = Some(says);
+    Ok(())
+}
+
+/// Sets the hint of a detail, if one is known: by the tokens before the place where reading stopped, those from there
+/// on, and the text from there on.
+fn advise(
+    detail: &mut Detail,
+    before: &[Token<'_>],
+    behind: &[Token<'_>],
+    rest: &str,
+) -> Result<(), AllocError> {
+    let memory = *detail.words.allocator();
+    match hint_for(before, behind, rest) {
+        Some(says) => match literal_hint(memory, says, behind, rest)? {
+            Some(exact) => {
+                detail.hint = Some(exact);
+                Ok(())
+            }
+            None => detail.advise(says),
+        },
+        None if rest.is_empty() => advise_close(detail, before),
+        None => Ok(()),
+    }
+}
+
 /// Returns the detail for a text at which reading stopped, at the token with this index.
 fn detail_at(memory: Memory, text: &str, stopped: &Stopped<'_>, place: usize) -> Option<Detail> {
     let tokens = stopped.front.tokens.as_slice();
@@ -140,15 +168,12 @@ fn detail_at(memory: Memory, text: &str, stopped: &Stopped<'_>, place: usize) ->
         [] => stopped.front.broken.unwrap_or(text.len()),
     };
     let rest = text.get(start..).unwrap_or("");
-    let hint = if stopped.is_deep && place == stopped.read {
-        Some(DEEP)
-    } else {
-        hint_for(before, behind, rest)
-    };
     let mut detail = Detail::of(words_of(memory, behind, rest).ok()?);
     detail.place = Some(Place::behind(front_of(text, start).as_bytes()));
-    if let Some(says) = hint {
-        detail.advise(says).ok()?;
+    if stopped.is_deep && place == stopped.read {
+        detail.advise(DEEP).ok()?;
+    } else {
+        advise(&mut detail, before, behind, rest).ok()?;
     }
     Some(detail)
 }

@@ -70,20 +70,21 @@ impl<I: IntervalIndex> Held<'_, I> {
     ghost use Rattle.tql_syntax_tree.specs.Statements.{statement_of};
     ghost use Rattle.tql_engine_state.specs.Allowed.{AsksWithin, IsAllowed};
 
-    /// Returns the detail of the first row that fails by itself (E30 and E32 to E34).
+    /// Returns the detail of the first row that fails by itself (E30 and E32 to E34). `listed` has the numbers of the
+    /// columns to which an INSERT gives values.
     fn fault_of(
         &self,
         table: &Table,
         rows: &[Row],
-        is_insert: bool,
+        listed: Option<&[usize]>,
         refusal: Refusal,
     ) -> Option<Detail> {
         let definition = &table.definition;
         let failure = first_failure(definition, rows, refusal)?;
         let row = rows.get(failure.row)?;
         let cells = Cells { definition, row };
-        let subject = subject(is_insert, failure.row);
-        fault_detail(self.memory, subject, &cells, failure.failed)
+        let subject = subject(listed.is_some(), failure.row);
+        fault_detail(self.memory, subject, &cells, failure.failed, listed)
     }
 
     /// Returns the cells of the row that a row clashes with, and which row it is.
@@ -182,12 +183,18 @@ impl<I: IntervalIndex> Held<'_, I> {
         }
     }
 
-    /// Returns the detail of rows that an INSERT adds.
-    fn added_fault(&self, place: usize, added: Vec<Row, Memory>, refusal: Refusal) -> Option<Detail>
+    /// Returns the detail of rows that an INSERT adds, whose values are for the columns of these numbers.
+    fn added_fault(
+        &self,
+        place: usize,
+        added: Vec<Row, Memory>,
+        columns: &[usize],
+        refusal: Refusal,
+    ) -> Option<Detail>
         requires within { place < length self.now.tables }
     {
         let table = self.table_at(place);
-        if let Some(detail) = self.fault_of(table, &added, true, refusal) {
+        if let Some(detail) = self.fault_of(table, &added, Some(columns), refusal) {
             return Some(detail);
         }
         let delta = Delta {
@@ -212,7 +219,7 @@ impl<I: IntervalIndex> Held<'_, I> {
             _ => {}
         }
         let rows = tuple_rows(self.memory, table, insertion).ok()?;
-        self.added_fault(insertion.table, rows, refusal)
+        self.added_fault(insertion.table, rows, &insertion.columns, refusal)
     }
 
     /// Returns the detail of a query that cannot be calculated.
@@ -235,7 +242,7 @@ impl<I: IntervalIndex> Held<'_, I> {
             Ok(answer) => {
                 let values = packed_answer(self.memory, &answer.rows).ok()?;
                 let rows = inserted_rows(self.memory, table, &insertion.columns, values).ok()?;
-                self.added_fault(insertion.table, rows, refusal)
+                self.added_fault(insertion.table, rows, &insertion.columns, refusal)
             }
             Err(_) => self.calculation_fault(&insertion.query, refusal),
         }
@@ -266,7 +273,7 @@ impl<I: IntervalIndex> Held<'_, I> {
         }
         let table = self.table_at(modification.table);
         match self.touched_rows(modification) {
-            Ok(rows) => self.fault_of(table, &rows, false, refusal),
+            Ok(rows) => self.fault_of(table, &rows, None, refusal),
             Err(_) => change_detail(self.memory, &table.definition, modification),
         }
     }
