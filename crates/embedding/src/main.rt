@@ -1,6 +1,6 @@
 //! An example program that uses the engine as a library. It runs a script and prints the refused statements. Then it
 //! queries the payments as the table had them at the end of March and now, and adds up the rows of each answer. It also
-//! prints the tables and the kinds of a query's columns, puts values into a statement, and lets two sessions take turns.
+//! prints the tables and the kinds of a query's columns, puts values into a statement, and has two sessions take turns.
 #![tactic(auto)]
 
 use std::alloc::AllocError;

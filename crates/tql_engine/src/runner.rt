@@ -58,8 +58,10 @@ const TOO_MANY_BYTES: usize = MOST_PULLS as usize;
 /// memory. Pruning is not visible: without the statements that pruned, or were refused for the horizon, all others have
 /// the same replies. Clause `holds`: if keys and references hold at every point of time in each copy of the reference
 /// model, they still do after the run. Clause `kept`: if the texts that the sink was given to keep are a journal of the
-/// engine's state before the run, they are one of its state after the run, whatever the result is. No byte of a reply
-/// is pushed before the text of its statement was given to the sink.
+/// engine's state before the run, they are one of its state after the run, whatever the result is.
+///
+/// The text of a statement is given to the sink before any byte of its reply is pushed. A test shows this, and no
+/// clause.
 pub fn run_in<I: IntervalIndex, S: Source<O>, O: Sink, L: Listener, F: Form>(
     engine: &mut Engine<I>,
     source: &mut S,
