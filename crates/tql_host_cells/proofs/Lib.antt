@@ -1,0 +1,4 @@
+pub mod Blocks
+pub mod Columns
+pub mod Most
+pub mod Over

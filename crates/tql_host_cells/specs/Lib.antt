@@ -1,0 +1,4 @@
+pub mod Block
+pub mod Cells
+pub mod Requests
+pub mod Texts

@@ -1,0 +1,4 @@
+pub mod Cursors
+pub mod Moves
+pub mod Parts
+pub mod Statements
