@@ -1,4 +1,4 @@
-.PHONY: help quick run build install package check test edits lint lines earned bench-index
+.PHONY: help quick run build lib quick-lib install package check test edits lint lines earned bench-index
 .PHONY: try-copies try-readers try-points try-devices try-fuzz try-growth-times try-plans try-round-trip try-details try-exports try-recipes try-crashes
 .PHONY: map proofs laws mutants words
 .NOTPARALLEL:
@@ -10,9 +10,11 @@ SCRIPT ?= examples/pay.sql
 define HELP
 To use the program:
   make run          runs the script SCRIPT=path (or an example) by ./tql if that is new, else by ./tql-quick, which it makes first
-  make quick        compiles ./tql-quick, optimized and without a proof, in some three minutes
+  make quick        compiles ./tql-quick, optimized and without a proof, in some four minutes
   make build        proves it, with a line for each crate, and leaves it as ./tql
-  make install      installs ./tql (or TQL=path), its tools, manual page, completions and documents below PREFIX=/usr/local
+  make lib          proves the library for C, Python and Rust, and leaves libtql.so, libtql.a and tql.pc in build/
+  make quick-lib    compiles it in minutes and without a proof
+  make install      installs ./tql (or TQL=path), its tools, manual page, completions and documents below PREFIX=/usr/local, and the library of build/
   make package      packs the same as dist/tql-VERSION-linux-x86_64.tar.gz and a .deb
 To prove and test:
   make check        tries all that needs no proof: cases, units, command lines, documents and tools, in some ten minutes
@@ -44,6 +46,12 @@ run:
 
 build:
 	@tools/build.py
+
+lib:
+	@tools/library.py
+
+quick-lib:
+	@tools/library.py --quick
 
 install:
 	@tools/install.py "$(TQL)" "$(DESTDIR)$(PREFIX)"

@@ -97,6 +97,7 @@ ROWS = [
     by_row("the rows of a join on an equality, counted", "plain", "SELECT COUNT(*) FROM t JOIN u ON t.n = u.n;"),
     by_row("the same, printed", "plain", "SELECT t.n, u.g FROM t JOIN u ON t.n = u.n;"),
     by_row("LEFT JOIN, printed", "plain", "SELECT t.n, u.g FROM t LEFT JOIN u ON t.n = u.n;"),
+    by_row("a join on an equality, with a WHERE that calculates", "plain", "SELECT COUNT(*) FROM t JOIN u ON t.n = u.n WHERE t.g + 1 > 3;"),
     by_row("a join on two columns, the first of 100 values", "plain", "SELECT COUNT(*) FROM t JOIN u ON t.g = u.g AND t.n = u.n;"),
     by_row("three tables by commas", "plain", "SELECT COUNT(*) FROM t, u, t v WHERE t.n = u.n AND u.n = v.n;"),
     by_row("a join by a key", "paired", "SELECT COUNT(*) FROM p JOIN q ON p.n = q.n;"),

@@ -25,7 +25,8 @@ def ask(statement: str) -> dict:
     tql.stdin.write(f"{statement}\n;\n")    # the line feed ends a comment
     tql.stdin.flush()
     answer = json.loads(tql.stdout.readline())
-    assert answer["statement"] == next(numbers)
+    if answer["statement"] != next(numbers):
+        raise RuntimeError("the answer is that of another statement")
     return answer
 
 

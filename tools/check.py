@@ -33,9 +33,8 @@ def commanded(*words: str) -> bool:
 
 def units() -> bool:
     """Whether the program of crates/test_units prints what it must."""
-    doc = subprocess.run(["rt", "doc"], stdout=subprocess.PIPE, text=True, check=True)
     with tempfile.TemporaryDirectory(prefix="tql-units-") as folder:
-        made = quick.compiled(Path(doc.stdout.strip()).parent.resolve(), Path(folder).resolve(), UNITS.name)
+        made = quick.compiled(quick.kit(), Path(folder).resolve(), UNITS.name)
         room = Path(shutil.copytree(UNITS / "data", Path(folder) / "data"))
         ran = subprocess.run([str(made)], cwd=room, stdout=subprocess.PIPE, check=False)
     print(ran.stdout.decode(errors="replace"), end="")

@@ -9,8 +9,8 @@ The documents are the pages at the top, docs/*.md, docs/areas/*.md and the READM
 - Each path from the top (crates/.., docs/.., tools/.., benches/.., examples/..), from a crate (tql_lex/src/scan.rt) or in one
   (specs/Runs.antt in the README.md of its crate) exists, and so does each file that is named (scan.rt). Words in capitals alone, as NAME, stand
   for any name.
-- Each name in backticks (Engine::step) is in the sources outside of comments. CHANGELOG.md and the pages of docs/ for users are left out: their
-  names are those of SQL.
+- Each name in backticks (Engine::step) is in the sources outside of comments, or in bindings/. CHANGELOG.md and the pages of docs/ for users are left
+  out: their names are those of SQL. A name tql_* may be a call of bindings/c/tql.h too.
 - Each crate is in an area of crates.txt, and it and each of its modules has a comment at its head: tools/map.py prints these.
 - In each line '| `Module` | 12 |' of docs/DEFINITIONS.md the number is the module's count of lines (of tql_spec, or of the named file of another
   crate). --count writes the numbers anew.
@@ -105,6 +105,10 @@ def main(words: list[str]) -> int:
     named = {*NO_SOURCE, *(part for it in paths for part in [*it.split("/"), Path(it).stem])}
     for it in sources.values():
         named.update(WORD.findall(REMARK.sub("", it)))
+    for it in paths:
+        if it.startswith("bindings/") and it.endswith((".c", ".h", ".py", ".rs")):
+            named.update(WORD.findall((TOP / it).read_text(encoding="utf-8")))
+    calls = {it for it in WORD.findall((TOP / "bindings" / "c" / "tql.h").read_text(encoding="utf-8")) if it.startswith("tql_")}
     wrong, definitions = [], TOP / "docs" / "DEFINITIONS.md"
     text, found = counted(definitions.read_text(encoding="utf-8"), "--count" in words)
     wrong += found
@@ -114,7 +118,7 @@ def main(words: list[str]) -> int:
         for at, line in enumerate(document.read_text(encoding="utf-8").split("\n"), 1):
             said = f"{document.relative_to(TOP)}:{at}"
             wrong += [f"{said}: a merge was left open"] * line.startswith(("<<<<<<< ", ">>>>>>> "))
-            wrong += [f"{said}: there is no crate {it}" for it in CRATE.findall(line) if it not in crates]
+            wrong += [f"{said}: there is no crate {it}" for it in CRATE.findall(line) if it not in crates | calls]
             wrong += [f"{said}: there is no {it}" for it in NAMED.findall(line) if not is_there(it, document, files, crates)]
             if document.name not in OF_SQL:
                 wrong += [f"{said}: no source names {it}" for it in QUOTED.findall(line) if not named.issuperset(it.split("::"))]

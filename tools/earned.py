@@ -69,9 +69,11 @@ def tokens(text: str) -> list[tuple[int, str]]:
                 at += 1
             at = closed(found, at)
         elif word == "ghost":
-            while found[at][1] not in (";", ","):
-                at = closed(found, at) if found[at][1] == "{" else at + 1
-            at += 1
+            # An item or a field ends with one of these, a parameter of a clause with its brace.
+            while found[at][1] not in (";", ",", "{"):
+                at += 1
+            at = closed(found, at) if found[at][1] == "{" else at
+            at += found[at][1] in (";", ",")
         else:
             kept.append(found[at])
             at += 1

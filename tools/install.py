@@ -1,5 +1,5 @@
 #!/usr/bin/env python3
-"""Installs the program, its tools, manual page, completions and documents below a folder.
+"""Installs the program, its tools, manual page, completions and documents below a folder, and the C library where build/ has it.
 
 Usage: tools/install.py PROGRAM FOLDER        (make install; FOLDER is DESTDIR and PREFIX)
 
@@ -12,10 +12,14 @@ import sys
 from pathlib import Path
 from typing import Iterator
 
+sys.dont_write_bytecode = True
+
+import library
+
 TOP = Path(__file__).resolve().parent.parent
 CASES = TOP / "crates" / "test_cases" / "data" / "cases"
 TOOLS = ("tql-csv", "tql-cents", "tql-timeline", "tql-export")
-PAGES = ("LANGUAGE", "QUESTIONS", "RECIPES", "ERRORS", "MOVING", "EVIDENCE", "KEEPING", "POSTGRESQL-FIRST-DAY", "OUTGROWING")
+PAGES = ("LANGUAGE", "QUESTIONS", "RECIPES", "ERRORS", "MOVING", "EVIDENCE", "KEEPING", "POSTGRESQL-FIRST-DAY", "OUTGROWING", "HOSTS")
 LINK = re.compile(r"\[([^\[\]]*)\]\(([^()\s]+)\)")
 RUN = re.compile(r"make run SCRIPT=([\w./-]+)")
 
@@ -24,7 +28,7 @@ def documents() -> dict:
     """Returns the files of the documentation, and where each is installed below share/doc/tql."""
     files = {TOP / "docs" / f"{it}.md": Path(f"{it}.md") for it in PAGES if (TOP / "docs" / f"{it}.md").exists()}
     files |= {TOP / it: Path(it) for it in ("LICENSE-APACHE", "LICENSE-MIT", "CHANGELOG.md")}
-    files |= {it: Path("examples") / it.name for it in sorted((TOP / "examples").glob("*.*")) if it.suffix in (".sql", ".py", ".sh", ".md")}
+    files |= {it: Path("examples") / it.name for it in sorted((TOP / "examples").glob("*.*")) if it.suffix in (".sql", ".py", ".sh", ".c", ".rs", ".md")}
     for folder in ("recipes", "asked", "errors", "moving"):
         files |= {it: Path(folder) / it.name for it in sorted((CASES / folder).glob("*.*")) if it.suffix in (".sql", ".out")}
     return files
@@ -57,6 +61,11 @@ def installed(program: Path) -> Iterator[tuple]:
     yield Path("share/man/man1/tql.1"), (TOP / "docs" / "tql.1").read_bytes(), 0o644
     for name in ("tql", *TOOLS):
         yield Path("share/bash-completion/completions") / name, (TOP / "tools" / "tql.bash").read_bytes(), 0o644
+    if (library.BUILD / library.FILES[0]).exists():
+        for name in library.FILES[:3]:
+            yield Path("lib") / name, (library.BUILD / name).read_bytes(), 0o644
+        yield Path("lib/pkgconfig/tql.pc"), library.pc("../..", "lib", "include").encode(), 0o644
+        yield Path("include/tql.h"), (library.C / "tql.h").read_bytes(), 0o644
     files = documents()
     for file, at in files.items():
         text = relinked(file, at, files).encode() if file.suffix == ".md" else file.read_bytes()
@@ -78,6 +87,10 @@ def main(words: list) -> int:
         made.write_bytes(content)
         made.chmod(mode)
     print(f"make install: {folder / 'bin' / 'tql'}, its tools and {folder / 'share' / 'doc' / 'tql'}")
+    if not (library.BUILD / library.FILES[0]).exists():
+        print("make install: no library, since build/ has none; make lib proves it, make quick-lib compiles it without a proof")
+    elif library.is_unproved(library.BUILD):
+        print(f"make install: {folder / 'lib' / library.FILES[0]} is not proved; make lib proves it")
     return 0
 
 

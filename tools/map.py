@@ -12,7 +12,7 @@ import textwrap
 from pathlib import Path
 
 TOP = Path(__file__).resolve().parent.parent
-AREA, CRATE = re.compile(r"^# ---- (\w+): (.*)$"), re.compile(r"^(\w+):")
+AREA, CRATE = re.compile(r"^# ---- (\w+): (.*)$"), re.compile(r"^(\w+)(?: staticlib)?:")
 # The pages of an area, where it is not docs/areas/AREA.md.
 PAGES = {"do": ("change", "query")}
 SENTENCE = re.compile(r"(.*?\.)(?=\s+[A-Z`]|$)", re.S)

@@ -25,7 +25,7 @@ from pathlib import Path
 TOP = Path(__file__).resolve().parent.parent
 LAWS, LEAST = TOP / "crates" / "test_mutants" / "src", 40
 SAID = TOP / "tools" / "mutants.tsv"
-FUNCTION = re.compile(r"^( *)(?:pub(?:\([a-z]+\))? )?(?:const |unsafe )*fn (\w+)", re.M)
+FUNCTION = re.compile(r'^( *)(?:pub(?:\([a-z]+\))? )?(?:const |unsafe |extern "C" )*fn (\w+)', re.M)
 OWNER = re.compile(r"^(?:unsafe )?impl\b([^{]*)\{|^(?:pub )?trait (\w+)", re.M)
 CYCLE = re.compile(r"#\[cycle\((\w+)\)\]")
 PROOFS = ("Answers.antt", "Invariants.antt", "Proof.antt")

@@ -65,12 +65,13 @@ def sums(files: list, name: str) -> bytes:
     return "".join(f"{hashlib.new(name, content).hexdigest()}  {path}\n" for path, content, *_ in sorted(files)).encode()
 
 
-def debian(files: list, version: str, program: bytes, is_proved: bool, when: int) -> bytes:
+def debian(files: list, version: str, is_proved: bool, when: int) -> bytes:
     """Returns the package: an archive of ar with the form, the control files and the data."""
     below = [(Path("usr") / path, content, mode) for path, content, mode in files]
     licences = b"".join(content for path, content, _ in files if path.name == "LICENSE-MIT")
     below.append((Path("usr/share/doc/tql/copyright"), b"Apache License 2.0 (/usr/share/common-licenses/Apache-2.0), or:\n\n" + licences, 0o644))
-    libc = max((tuple(map(int, it.split(b"."))) for it in re.findall(rb"GLIBC_(2\.[0-9]+)", program)), default=(2, 17))
+    needed = [it for path, content, _ in files if path.parts[0] in ("bin", "lib") for it in re.findall(rb"GLIBC_(2\.[0-9]+)", content)]
+    libc = max((tuple(map(int, it.split(b"."))) for it in needed), default=(2, 17))
     control = CONTROL.format(version=version, size=sum(len(it[1]) for it in below) // 1024 + 1, libc=".".join(map(str, libc)), proof=PROOFS[is_proved])
     about = [(Path("control"), control.encode(), 0o644), (Path("md5sums"), sums(below, "md5"), 0o644)]
     package = b"!<arch>\n"
@@ -92,7 +93,7 @@ def main(words: list) -> int:
     name = f"tql-{version}-linux-x86_64"
     whole = [(Path(name) / path, content, mode) for path, content, mode in [*files, (Path("SHA256SUMS"), sums(files, "sha256"), 0o644)]]
     made = {f"{name}.tar.gz": packed(whole, when),
-            f"tql_{version}_amd64.deb": debian(files, version, program.read_bytes(), program.resolve() == TOP / "tql", when)}
+            f"tql_{version}_amd64.deb": debian(files, version, program.resolve() == TOP / "tql", when)}
     folder.mkdir(exist_ok=True)
     for it, content in made.items():
         (folder / it).write_bytes(content)

@@ -7,8 +7,8 @@ The pages are README.md, examples/README.md and, in docs/, QUESTIONS.md, RECIPES
 
 - Examples: a fenced block `sql` is a script and a fenced block `text` is its output. Both belong to the case whose .sql file was linked last
   above the block. The scripts of a case, joined, equal its .sql file without the comments at its head. The outputs, joined, equal its .out
-  file. Blank lines are left out. An output in box format equals the tables of the .out file, drawn as boxes. Other blocks are `sh`, `python`
-  and `console`; none has a line over 120 characters. RECIPES.md may show parts: each block is a run of whole lines of the file, after the one before.
+  file. Blank lines are left out. An output in box format equals the tables of the .out file, drawn as boxes. Other blocks are `sh`, `python`,
+  `c` and `console`; none has a line over 120 characters. RECIPES.md may show parts: each block is a run of whole lines of the file, after the one before.
 - QUESTIONS.md: each question also has a case of its own, whose script and output end with those of the page.
 - ERRORS.md: its headings are the numbers and texts of tql_value/src/refusal.rt, each once, by number. Each but E01 is in an output of the cases
   `errors`.
@@ -36,7 +36,7 @@ FENCE = re.compile(r"^```(\w*)$")
 BOX = "┌│├└"
 ROWS = re.compile(r"\((\d+) rows\)")
 REFUSAL = re.compile(r'"(E\d\d) ([^"]+)"')
-KINDS, WIDTH = ("sql", "text", "sh", "python", "console"), 120
+KINDS, WIDTH = ("sql", "text", "sh", "python", "c", "console"), 120
 
 
 class Block(NamedTuple):

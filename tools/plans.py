@@ -4,9 +4,9 @@
 Usage: tools/plans.py [COUNT [FIRST]]        (make try-plans COUNT=1000)
 
 COUNT scripts (by default 1,000), each by a counter that begins at FIRST (by default 0), of tools/planning. Each is run twice: as it is, and with
-`0 + 0 = 0 AND` before each condition of WHERE. That conjunct is true of every row, but calculates and is evaluated first, so no row is left out or
-looked up, and none is sorted for a join: each row is compared with each. Both have to print the same bytes, since the answer has an order of its own
-only where one is asked for. Of every fifth condition the plain one calculates too, after the others.
+`0 + 0 = 0 AND` before each condition of ON and WHERE. That conjunct is true of every row, but calculates and is evaluated first, so no row is left out
+or looked up, and none is sorted for a join: each row is compared with each. Both have to print the same bytes, since the answer has an order of its own
+only where one is asked for. Of every fifth WHERE the plain one calculates too, after the others; of every fifth ON, anywhere among them.
 
 Of twenty scripts
 - nine have tables with keys, references and periods, rows with NULLs and repeats, some of them changed later, and queries and changes with joins of
@@ -22,8 +22,8 @@ Of twenty scripts
 With AGAINST=path the plain script also has to print what that other program prints, such as one of an earlier commit. This compares what is not
 turned off by the conjunct: how groups are made, DISTINCT, and the order.
 
-A script that differs is kept in a folder, which is named; the status is 1 then. At the end it says how many first references of the plain queries were
-found in which way, so that a way which is never tried is noticed. The program is TQL=path, or ./tql where it is
+A script that differs is kept in a folder, which is named; the status is 1 then. At the end it says how many first references of the plain queries, and
+tables of the plain changes, were found in which way, so that a way which is never tried is noticed. The program is TQL=path, or ./tql where it is
 newer than every source, or else ./tql-quick, which is compiled first where it has to be (make quick).
 """
 import os
@@ -92,7 +92,7 @@ def main() -> int:
                 (room / f"{counter}.plain.sql").write_text("\n".join(script.plain) + "\n", encoding="utf-8")
                 (room / f"{counter}.slow.sql").write_text("\n".join(script.slow) + "\n", encoding="utf-8")
                 print(f"script {counter} differs: {room}")
-    print(f"{sum(found.values())} queries by {', '.join(f'{way} {many}' for way, many in found.most_common())}")
+    print(f"{sum(found.values())} queries and changes by {', '.join(f'{way} {many}' for way, many in found.most_common())}")
     print(f"{count} scripts from {first}: {'some differ' if room else 'each answers the same'}")
     return 1 if room else 0
 

@@ -20,7 +20,7 @@ SHAPES = [
 
 
 class Script:
-    """A script by a counter, twice: as it is, and with the slow conjunct first in each WHERE."""
+    """A script by a counter, twice: as it is, and with the slow conjunct first in each ON and WHERE."""
 
     STEPS, COLUMNS = 12, "k, f, g, x, u"
 
@@ -43,8 +43,21 @@ class Script:
     def say(self, plain: str, where: str | None = None) -> None:
         """A statement, with the condition behind its WHERE, where it has one."""
         behind = f" AND {SLOW}" if where and self.dice.random() < 0.2 else ""
+        slow = plain.replace(" ON ", f" ON {SLOW} AND ")
         self.plain.append(plain if where is None else plain.replace("{}", f" WHERE {where}{behind}" if where else ""))
-        self.slow.append(plain if where is None else plain.replace("{}", f" WHERE {SLOW} AND {where}" if where else f" WHERE {SLOW}"))
+        self.slow.append(slow if where is None else slow.replace("{}", f" WHERE {SLOW} AND {where}" if where else f" WHERE {SLOW}"))
+
+    def on(self, refs: list[tuple[str, bool]], most: int, else_on: str) -> str:
+        """An ON of some references. Of every fifth a conjunct calculates, anywhere among the others: the equalities before it find partners."""
+        tests = [self.test(refs) for _ in range(self.dice.randint(0, most))] or [else_on]
+        if self.dice.random() < 0.2:
+            tests.insert(self.dice.randint(0, len(tests)), self.calculated_on(refs))
+        return f" ON {' AND '.join(tests)}"
+
+    def calculated_on(self, refs: list[tuple[str, bool]]) -> str:
+        """A condition that calculates, out of range for no row."""
+        (name, _), (other, _) = refs[0], refs[-1]
+        return self.dice.choice([SLOW, f"{name}.k + {other}.k >= 0", f"{name}.k - {other}.g < 3"])
 
     def table(self, number: int) -> tuple[str, bool, bool]:
         """Creates a table: its name, whether it has days or moments in its period, whether it is versioned."""
@@ -139,7 +152,7 @@ class Script:
                 near.append(ref)
                 refs.append(ref)
                 kind = self.dice.choice(["JOIN", "INNER JOIN", "LEFT JOIN", "LEFT JOIN", "CROSS JOIN"])
-                on = f" ON {self.condition(near, 2) or 'r0.k = r0.k'.replace('r0', ref[0])}" if kind != "CROSS JOIN" else ""
+                on = self.on(near, 2, f"{ref[0]}.k = {ref[0]}.k") if kind != "CROSS JOIN" else ""
                 text += f" {kind} {more}{on}"
             chains.append(text)
             if len(refs) > (1 if self.is_large else 4):

@@ -1,6 +1,8 @@
 """Tests of examples/client.py: each answer belongs to the statement that was sent."""
 import sys
+import tempfile
 import unittest
+from pathlib import Path
 
 from common import TOP, ran, tql
 
@@ -30,6 +32,15 @@ class Client(unittest.TestCase):
     def test_quotes_and_comments(self):
         texts = ("CREATE TABLE u (a VARCHAR(9))", "INSERT INTO u VALUES ('a;--''x') -- it's; one", 'SELECT a AS ";" FROM u', "DROP")
         self.assertEqual(self.answers(*texts), ["CREATE TABLE", "INSERT", "[[\"a;--'x\"]]", "10"])
+
+    def test_the_answer_of_another_statement(self):
+        source = (TOP / "examples" / "client.py").read_text(encoding="utf-8").partition("print(ask(")[0]
+        with tempfile.TemporaryDirectory() as room:
+            false = Path(room) / "tql"
+            false.write_text("#!/bin/sh\nread line\necho '{\"statement\": 2, \"reply\": \"COMMIT\"}'\nexec cat > /dev/null\n", encoding="utf-8")
+            false.chmod(0o755)
+            got = ran([sys.executable, "-c", source + "ask('COMMIT')", str(false)])
+        self.assertIn(b"RuntimeError: the answer is that of another statement", got.stderr)
 
 
 if __name__ == "__main__":

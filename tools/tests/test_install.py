@@ -11,9 +11,10 @@ import unittest
 from pathlib import Path
 
 from common import CASES, TOP, ran, tql
+import library
 
 TOOLS = ("tql-csv", "tql-cents", "tql-timeline", "tql-export")
-DOCUMENTS = ("LANGUAGE", "QUESTIONS", "RECIPES", "ERRORS", "MOVING", "EVIDENCE", "KEEPING", "POSTGRESQL-FIRST-DAY", "OUTGROWING")
+DOCUMENTS = ("LANGUAGE", "QUESTIONS", "RECIPES", "ERRORS", "MOVING", "EVIDENCE", "KEEPING", "POSTGRESQL-FIRST-DAY", "OUTGROWING", "HOSTS")
 LINK = re.compile(r"\]\(([^()\s#]+)(?:#[^()\s]*)?\)")
 # What is typed, and what completes the last word.
 COMPLETED = (
@@ -47,6 +48,20 @@ class Install(unittest.TestCase):
         for script in ("recipes/undo.sql", "examples/pay.sql"):
             self.assertEqual((share / "doc/tql" / script).read_bytes(), (CASES / script).read_bytes())
         self.assertEqual({it.name for it in (share / "bash-completion/completions").iterdir()}, {"tql", *TOOLS})
+
+    def test_the_library(self):
+        self.assertEqual(library.main(["--quick", "--silent"]), 0)
+        self.assertEqual(made("install", f"TQL={tql()}", f"DESTDIR={self.room}", "PREFIX=/usr").returncode, 0)
+        lib = self.room / "usr" / "lib"
+        self.assertEqual({it.name for it in lib.iterdir()}, {"libtql.so.0", "libtql.so", "libtql.a", "pkgconfig"})
+        self.assertFalse(any(it.is_symlink() for it in [*lib.iterdir(), *library.BUILD.iterdir()]))
+        if shutil.which("pkg-config"):
+            for place, words in ((lib / "pkgconfig", []), (library.BUILD, []), (lib / "pkgconfig", ["-static"])):
+                flags = ran(["pkg-config", "--cflags", "--libs", "tql"], env={**os.environ, "PKG_CONFIG_PATH": str(place)}).stdout.decode().split()
+                got = ran([library.compiler(), TOP / "examples/host.c", "-o", self.room / "host", *flags, *words])
+                self.assertEqual((got.returncode, got.stderr), (0, b""))
+                got = ran([self.room / "host"], env={"LD_LIBRARY_PATH": str(place.parent if place != library.BUILD else place)})
+                self.assertTrue(got.stdout.startswith(b"E35, row 1, ONE_RATE\n"), got)
 
     def test_no_link_is_dead(self):
         made("install", f"TQL={tql()}", f"DESTDIR={self.room}", "PREFIX=")
