@@ -7,7 +7,7 @@ use Rattle.std.proofs.lemmas.List.{length-append}
 use Rattle.std.proofs.lemmas.Option.{slice_get_within}
 use Rattle.tql_spec.specs.Datum.{Row}
 use Rattle.tql_spec.proofs.Members.{by_bool}
-use Rattle.tql_exec_join.specs.Digest.{digest}
+use Rattle.tql_exec_join.specs.Digest.{spread_digest}
 use Rattle.tql_exec_numbered.specs.Runs.{row_at, AreRuns}
 use Rattle.tql_exec_numbered.specs.Slots.{first_place, is_kept, AreFiled}
 
@@ -26,42 +26,42 @@ got_last (y ∷ xs) x (suc n) is = got_last xs x n (omega arith)
 
 -- ---- a row by its digest
 
-pub with_digest : (rows : List Row) (n d : ℕ) → option_map (digest 0) (slice_get rows n) ≡ Some d
-    → (slice_get rows n ≡ Some (row_at rows n)) × (d ≡ digest 0 (row_at rows n))
+pub with_digest : (rows : List Row) (n d : ℕ) → option_map spread_digest (slice_get rows n) ≡ Some d
+    → (slice_get rows n ≡ Some (row_at rows n)) × (d ≡ spread_digest (row_at rows n))
 with_digest [] n d e = cc
 with_digest (r ∷ rows) zero d e = (refl, cc)
 with_digest (r ∷ rows) (suc n) d e = with_digest rows n d e
 
-pub without_digest : (rows : List Row) (n : ℕ) → option_map (digest 0) (slice_get rows n) ≡ None → length rows ≤ n
+pub without_digest : (rows : List Row) (n : ℕ) → option_map spread_digest (slice_get rows n) ≡ None → length rows ≤ n
 without_digest [] n e = omega arith
 without_digest (r ∷ rows) zero e = cc
 without_digest (r ∷ rows) (suc n) e = omega (arith, without_digest rows n e)
 
 module _ (rows : List Row) (os ns : List ℕ) (before_runs after_runs : List (List ℕ)) (k d : ℕ) (r : Row)
-    (got : slice_get rows k ≡ Some r) (right : d ≡ digest 0 r) (len : length ns ≡ length os)
+    (got : slice_get rows k ≡ Some r) (right : d ≡ spread_digest r) (len : length ns ≡ length os)
     (now : is_kept ns after_runs (first_place (length os) d) k ≡ true)
     (kept : (at n : ℕ) → is_kept os before_runs at n ≡ true → is_kept ns after_runs at n ≡ true)
     (before : (n : ℕ) (row : Row) → n < k → slice_get rows n ≡ Some row
-    → is_kept os before_runs (first_place (length os) (digest 0 row)) n ≡ true) where
+    → is_kept os before_runs (first_place (length os) (spread_digest row)) n ≡ true) where
   -- the rows so far are filed
   pub one_more_filed : (n : ℕ) (row : Row) → n < k + 1 → slice_get rows n ≡ Some row
-      → is_kept ns after_runs (first_place (length ns) (digest 0 row)) n ≡ true
+      → is_kept ns after_runs (first_place (length ns) (spread_digest row)) n ≡ true
   one_more_filed n row l is = by_bool (nat_lt n k)
-      (λ less. subst (λ size. is_kept ns after_runs (first_place size (digest 0 row)) n ≡ true) (sym len)
-      (kept (first_place (length os) (digest 0 row)) n (before n row (ltb-true n k less) is)))
+      (λ less. subst (λ size. is_kept ns after_runs (first_place size (spread_digest row)) n ≡ true) (sym len)
+      (kept (first_place (length os) (spread_digest row)) n (before n row (ltb-true n k less) is)))
       (λ more. last (omega (arith, ltb-false n k more)))
     where
-      last : n ≡ k → is_kept ns after_runs (first_place (length ns) (digest 0 row)) n ≡ true
+      last : n ≡ k → is_kept ns after_runs (first_place (length ns) (spread_digest row)) n ≡ true
       last same =
           let other : slice_get rows k ≡ Some row = subst (λ m. slice_get rows m ≡ Some row) same is in
           let itself : r ≡ row = cc in
-          subst (λ m. is_kept ns after_runs (first_place (length ns) (digest 0 row)) m ≡ true) (sym same)
-          (subst (λ size. is_kept ns after_runs (first_place size (digest 0 row)) k ≡ true) (sym len)
-          (subst (λ h. is_kept ns after_runs (first_place (length os) h) k ≡ true) (right ∙ ap (digest 0) itself) now))
+          subst (λ m. is_kept ns after_runs (first_place (length ns) (spread_digest row)) m ≡ true) (sym same)
+          (subst (λ size. is_kept ns after_runs (first_place size (spread_digest row)) k ≡ true) (sym len)
+          (subst (λ h. is_kept ns after_runs (first_place (length os) h) k ≡ true) (right ∙ ap spread_digest itself) now))
 
 -- a row after the others
 pub filed_behind : (rows all : List Row) (os ns : List ℕ) (before_runs after_runs : List (List ℕ)) (k d : ℕ) (r : Row)
-    → all ≡ rows ++ r ∷ [] → k ≡ length rows → d ≡ digest 0 r → length ns ≡ length os
+    → all ≡ rows ++ r ∷ [] → k ≡ length rows → d ≡ spread_digest r → length ns ≡ length os
     → is_kept ns after_runs (first_place (length os) d) k ≡ true
     → ((at n : ℕ) → is_kept os before_runs at n ≡ true → is_kept ns after_runs at n ≡ true)
     → AreRuns all after_runs → AreFiled rows os before_runs → AreFiled all ns after_runs

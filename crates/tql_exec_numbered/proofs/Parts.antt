@@ -5,7 +5,7 @@ use Rattle.std.proofs.Common.{sym, ap, subst, ◌∙◌, arith, drop, take}
 use Rattle.std.proofs.lemmas.List.{drop-append-le, drop_at, length-append, length-drop, length-take-le, take_all}
 use Rattle.std.proofs.lemmas.List.{take-append-drop, take-append-le}
 use Rattle.tql_spec.specs.Datum.{Row}
-use Rattle.tql_exec_join.specs.Digest.{digest}
+use Rattle.tql_exec_join.specs.Digest.{spread_digest}
 use Rattle.tql_exec_numbered.specs.Rows.{parts, start_at, AreMarks}
 use Rattle.tql_exec_numbered.specs.declared.rows.Mark.{Mark}
 
@@ -57,11 +57,11 @@ part_ends s (k ∷ ms) xs zero m is e =
 part_ends s (k ∷ ms) xs (suc n) m is e = part_ends k.end ms xs n m is.2 e
 
 pub part_digest : (s : ℕ) (ms : List Mark) (xs : Row) (n : ℕ) (m : Mark) → AreMarks s ms xs → slice_get ms n ≡ Some m
-    → m.digest ≡ digest 0 (take (m.end - start_at s ms n) (drop (start_at s ms n) xs))
+    → m.digest ≡ spread_digest (take (m.end - start_at s ms n) (drop (start_at s ms n) xs))
 part_digest s [] xs n m is e = cc
 part_digest s (k ∷ ms) xs zero m is e =
     let same : k ≡ m = cc in
-    subst (λ (z : Mark). z.digest ≡ digest 0 (take (z.end - s) (drop s xs))) same is.1
+    subst (λ (z : Mark). z.digest ≡ spread_digest (take (z.end - s) (drop s xs))) same is.1
 part_digest s (k ∷ ms) xs (suc n) m is e = part_digest k.end ms xs n m is.2 e
 
 -- ---- one more row
@@ -72,14 +72,14 @@ module _ (xs ys : Row) (m : Mark) (end : m.end ≡ length (xs ++ ys)) where
       let long : length (xs ++ ys) ≡ length xs + length ys = length-append xs ys in
       ap (take (m.end - s)) (drop_at xs ys s (sym is)) ∙ take_all (m.end - s) ys (omega arith)
 
-  pub marks_behind : (s : ℕ) (ms : List Mark) → m.digest ≡ digest 0 ys → AreMarks s ms xs
+  pub marks_behind : (s : ℕ) (ms : List Mark) → m.digest ≡ spread_digest ys → AreMarks s ms xs
       → AreMarks s (ms ++ m ∷ []) (xs ++ ys)
   marks_behind s [] same is =
       let long : length (xs ++ ys) ≡ length xs + length ys = length-append xs ys in
-      (omega (arith, is), same ∙ ap (digest 0) (sym (last_part s is)), end)
+      (omega (arith, is), same ∙ ap spread_digest (sym (last_part s is)), end)
   marks_behind s (k ∷ ms) same is = (
     is.0,
-    is.1 ∙ ap (digest 0) (sym (cut_before s k.end xs ys is.0 (start_within k.end ms xs is.2))),
+    is.1 ∙ ap spread_digest (sym (cut_before s k.end xs ys is.0 (start_within k.end ms xs is.2))),
     marks_behind k.end ms same is.2,
   )
 
@@ -109,7 +109,7 @@ module _ (xs : Row) where
       let left = marks_left m.end (k ∷ ms) i (omega arith) is.2 in
       let p = start_at m.end (k ∷ ms) i in
       let within = start_within m.end (take i (k ∷ ms)) (take p xs) left in
-      (is.0, is.1 ∙ ap (digest 0) (sym (cut_among s m.end p xs is.0 within)), left)
+      (is.0, is.1 ∙ ap spread_digest (sym (cut_among s m.end p xs is.0 within)), left)
 
   pub parts_left : (s : ℕ) (ms : List Mark) (i : ℕ) → i + 1 ≡ length ms → AreMarks s ms xs
       → parts s ms xs ≡ parts s (take i ms) (take (start_at s ms i) xs) ++ drop (start_at s ms i) xs ∷ []

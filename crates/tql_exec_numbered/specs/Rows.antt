@@ -1,7 +1,7 @@
 -- Rows that stand one behind another in one list of values, by the end and the digest of each.
 use Rattle.std.specs.Prelude.{◌≡◌, ℕ, zero, suc, ◌-◌, ◌≤◌, List, [], ◌∷◌, drop, length, take}
 use Rattle.tql_spec.specs.Datum.{Row}
-use Rattle.tql_exec_join.specs.Digest.{digest}
+use Rattle.tql_exec_join.specs.Digest.{spread_digest}
 use Rattle.tql_exec_numbered.specs.declared.rows.Mark.{Mark}
 
 -- the number of values before the row with a number, if the first row starts behind this many
@@ -19,4 +19,4 @@ parts start (m ∷ marks) values = take (m.end - start) (drop start values) ∷ 
 abbrev pub AreMarks : ℕ → List Mark → Row → Type 0
 AreMarks start [] values = start ≡ length values
 AreMarks start (m ∷ marks) values =
-    (start ≤ m.end) × (m.digest ≡ digest 0 (take (m.end - start) (drop start values))) × AreMarks m.end marks values
+    (start ≤ m.end) × (m.digest ≡ spread_digest (take (m.end - start) (drop start values))) × AreMarks m.end marks values

@@ -5,12 +5,12 @@ use Rattle.std.specs.Prelude.{◌≡◌, ℕ, zero, suc, ◌+◌, ◌-◌, ◌/�
 use Rattle.std.specs.Prelude.{Option, Some, None}
 use Rattle.std.specs.Prelude.{◌||◌, nat_eq, slice_get, bit_and, bit_xor}
 use Rattle.tql_spec.specs.Datum.{Row}
-use Rattle.tql_exec_join.specs.Digest.{digest, mixed}
+use Rattle.tql_exec_join.specs.Digest.{spread, spread_digest}
 use Rattle.tql_exec_numbered.specs.Runs.{is_in_runs, AreRuns}
 
--- the first slot of a digest, in a table of this size: by bits of the digest, mixed once more
+-- the first slot of a digest, in a table of this size: by bits of the digest, spread once more
 abbrev pub first_place : ℕ → ℕ → ℕ
-first_place size d = bit_and (mixed 0 (bit_xor d (d / 2 ^ 32)) / 2 ^ 32) (size - 1)
+first_place size d = bit_and (spread (bit_xor d (d / 2 ^ 32)) / 2 ^ 32) (size - 1)
 
 -- one step of `is_reached`: past the last slot, at an empty slot, or at a slot with a number
 abbrev pub reached_at : Option ℕ → ℕ → Bool → Bool
@@ -42,4 +42,4 @@ is_kept slots runs at number = is_reached 32 slots at number || is_in_runs numbe
 -- each row number is in one of the slots of its row, or in a run; the runs are sorted
 abbrev pub AreFiled : List Row → List ℕ → List (List ℕ) → Type 0
 AreFiled rows slots runs = AreRuns rows runs × ((n : ℕ) (row : Row) → slice_get rows n ≡ Some row
-    → is_kept slots runs (first_place (length slots) (digest 0 row)) n ≡ true)
+    → is_kept slots runs (first_place (length slots) (spread_digest row)) n ≡ true)

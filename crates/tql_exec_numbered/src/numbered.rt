@@ -7,16 +7,17 @@
 //! if rows were chosen to collide.
 ghost use Rattle.std.specs.Prelude.{◌≡◌, ◌≢◌, ◌+◌, ◌<◌, ◌^◌, ◌↔◌, IfNone, IfOk, IfSome, IsTrue, length, ℕ};
 ghost use Rattle.std.specs.Prelude.{false, slice_get, OnErr, OnOk, Some, true};
-ghost use Rattle.tql_exec_join.specs.Digest.{digest as digest_from};
+ghost use Rattle.tql_exec_join.specs.Digest.{spread_digest};
 ghost use Rattle.tql_exec_numbered.specs.Numbered.{seen};
 ghost use Rattle.tql_exec_numbered.specs.Runs.{numbers_in, AreRuns};
 ghost use Rattle.tql_exec_numbered.specs.Slots.{first_place as place_of, free_from, is_kept, is_reached, AreFiled};
 
-use crate::cells::{agree, digest_of, mixed};
+use crate::cells::{agree, digest_of};
 use crate::rows::Rows;
 use crate::runs::{add, find};
 use std::alloc::AllocError;
 use std::marker::Model;
+use tql_exec_join::digest::spread;
 use tql_memory::Memory;
 use tql_value::refusal::Refusal;
 use tql_value::value::{Value, View};
@@ -27,19 +28,19 @@ const WINDOW: usize = 32;
 /// The number of slots of the smallest table.
 const FEWEST: usize = 64;
 
-/// Returns the first slot of a digest, in a table of this number of slots. The digest is mixed once more, since digests
-/// of numbers in steps are in steps too, and would be crowded in a part of the table.
+/// Returns the first slot of a digest, in a table of this number of slots. The digest is spread once more, since
+/// digests of numbers in steps are in steps too, and would be crowded in a part of the table.
 #[inline(always)]
 fn first_place(size: usize, digest: u64) -> usize
     ensures { result ≡ place_of size digest }
 {
-    ((mixed(0, digest ^ (digest >> 32)) >> 32) as usize) & size.saturating_sub(1)
+    ((spread(digest ^ (digest >> 32)) >> 32) as usize) & size.saturating_sub(1)
 }
 
 /// Whether the row with a number equals this row, which has this digest. Rows with other digests are not compared.
 #[inline(always)]
 fn agrees_at(rows: &Rows, number: usize, digest: u64, row: &[View<'_>]) -> bool
-    requires { digest ≡ digest_from 0 (seen row.now) }
+    requires { digest ≡ spread_digest (seen row.now) }
     ensures { IsTrue result ↔ (slice_get rows.now number ≡ Some (seen row.now)) }
 {
     match rows.digest_at(number) {
@@ -51,7 +52,7 @@ fn agrees_at(rows: &Rows, number: usize, digest: u64, row: &[View<'_>]) -> bool
 /// Returns the number of a row with this digest, if it is in one of its slots.
 #[inline(always)]
 fn met_number(rows: &Rows, slots: &[u32], digest: u64, row: &[View<'_>]) -> Option<usize>
-    requires { digest ≡ digest_from 0 (seen row.now) }
+    requires { digest ≡ spread_digest (seen row.now) }
     ensures some { IfSome result (λ n. slice_get rows.now n ≡ Some (seen row.now)) }
     ensures none { IfNone result ((n : ℕ) → slice_get rows.now n ≡ Some (seen row.now)
         → is_reached 32 slots.now (place_of (length slots.now) digest) n ≡ false) }
@@ -83,7 +84,7 @@ fn number_of(
     row: &[View<'_>],
 ) -> Option<usize>
     requires filed { AreFiled rows.now slots.now (numbers_in runs.now) }
-    requires digest { digest ≡ digest_from 0 (seen row.now) }
+    requires digest { digest ≡ spread_digest (seen row.now) }
     ensures some { IfSome result (λ n. slice_get rows.now n ≡ Some (seen row.now)) }
     ensures none { IfNone result ((n : ℕ) → slice_get rows.now n ≢ Some (seen row.now)) }
 {
@@ -204,7 +205,7 @@ impl Numbered {
     ghost use Rattle.std.specs.Prelude.{◌≡◌, ◌≢◌, ◌++◌, ◌∷◌, ◌<◌, [], ℕ, IfErr, IfOk, length, OnErr, OnOk};
     ghost use Rattle.std.specs.Prelude.{slice_get, slice_index_or, Some};
     ghost use Rattle.tql_value.specs.Views.{row_of, rows_of};
-    ghost use Rattle.tql_exec_join.specs.Digest.{digest as digest_from};
+    ghost use Rattle.tql_exec_join.specs.Digest.{spread_digest};
     ghost use Rattle.tql_exec_numbered.specs.Numbered.{seen, with_row};
 
     /// Returns no rows. Makes no allocation.
@@ -256,7 +257,7 @@ impl Numbered {
     /// allocation, and leaves the rows as they were.
     #[inline(never)]
     fn add(&mut self, digest: u64, row: &[View<'_>]) -> Result<usize, Refusal>
-        requires { digest ≡ digest_from 0 (seen row.now) }
+        requires { digest ≡ spread_digest (seen row.now) }
         ensures rows { OnOk result (self.new ≡ self.old ++ seen row.now ∷ []) }
         ensures number { IfOk result (λ n. slice_get self.new n ≡ Some (seen row.now)) }
         ensures err { OnErr result (self.new ≡ self.old) }

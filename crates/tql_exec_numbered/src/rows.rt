@@ -103,7 +103,7 @@ impl Rows {
     ghost use Rattle.std.specs.Prelude.{OnOk, option_map, slice_get};
     ghost use Rattle.tql_spec.specs.Datum.{Row};
     ghost use Rattle.tql_value.specs.Views.{row_of, rows_of};
-    ghost use Rattle.tql_exec_join.specs.Digest.{digest as digest_from};
+    ghost use Rattle.tql_exec_join.specs.Digest.{spread_digest};
     ghost use Rattle.tql_exec_numbered.specs.Numbered.{seen};
     ghost use Rattle.tql_exec_numbered.specs.Runs.{row_at};
 
@@ -143,7 +143,7 @@ impl Rows {
     /// Returns the digest of the row with a number.
     #[inline(always)]
     pub(crate) fn digest_at(&self, number: usize) -> Option<u64>
-        ensures digest { result ≡ option_map (digest_from 0) (slice_get self.now number) }
+        ensures digest { result ≡ option_map spread_digest (slice_get self.now number) }
         ensures most { IfSome result (λ _. number + 1 < 2 ^ 64) }
     {
         match self.marks.get(number) {
@@ -159,7 +159,7 @@ impl Rows {
         digest: u64,
         row: &[View<'_>],
     ) -> Result<(), Refusal>
-        requires { digest ≡ digest_from 0 (seen row.now) }
+        requires { digest ≡ spread_digest (seen row.now) }
         ensures rows { OnOk result (self.new ≡ self.old ++ seen row.now ∷ []) }
         ensures err { OnErr result (self.new ≡ self.old) }
         ensures memory { IfErr result (λ e. e ≡ Refusal.OutOfMemory) }
