@@ -9,3 +9,4 @@ pub mod finding;
 pub mod near;
 pub mod pushing;
 pub mod reading;
+pub mod sampling;

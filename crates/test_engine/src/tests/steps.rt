@@ -65,8 +65,9 @@ fn ends_a_transaction_without_memory(rt: HostRuntime) -> Result<(), Fail> {
     Ok(())
 }
 
-/// Statements for an index whose lookups all fail, and the refusal of each. A step takes no semicolon.
-static QUESTIONS: [(&str, Option<Refusal>); 10] = [
+/// Statements for an index whose lookups all fail, and the refusal of each. Where many current rows match, the table is
+/// read without a lookup. A step takes no semicolon.
+static QUESTIONS: [(&str, Option<Refusal>); 11] = [
     (
         "CREATE TABLE log (x INTEGER, s TIMESTAMP GENERATED ALWAYS AS ROW START, \
          e TIMESTAMP GENERATED ALWAYS AS ROW END, PERIOD FOR SYSTEM_TIME (s, e)) WITH SYSTEM VERSIONING",
@@ -90,6 +91,10 @@ static QUESTIONS: [(&str, Option<Refusal>); 10] = [
     ("SELECT eno FROM emp WHERE eno = 1", None),
     (
         "SELECT eno FROM emp WHERE ep CONTAINS DATE '2011-06-01'",
+        None,
+    ),
+    (
+        "SELECT eno FROM emp WHERE ep CONTAINS DATE '2013-06-01'",
         Some(Refusal::OutOfMemory),
     ),
     (

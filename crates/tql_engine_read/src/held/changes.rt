@@ -5,6 +5,7 @@ use crate::held::Held;
 use tql_bound::change::{Insertion, Modification, QueryInsertion};
 use tql_dml::modification::{modify, modify_current};
 use tql_exec_read::changing::{current_with_any, few_of};
+use tql_exec_read::sampling::{ROWS_OF_A_CHANGE, are_many};
 use tql_index::index::IntervalIndex;
 use tql_new_rows::insertion::{insert_rows, insert_tuples};
 use tql_plan_access::choices::alternatives;
@@ -51,9 +52,9 @@ impl<I: IntervalIndex> Held<'_, I> {
         insert_rows(self.memory, table, &insertion.columns, rows)
     }
 
-    /// Returns the change that an UPDATE or DELETE makes to the current rows of its table, if its access path is all of
-    /// them. If WHERE gives a few values for a column, only the rows with one of them are read: of the others WHERE is
-    /// not true. Otherwise all rows are read where they are stored, and only what is touched takes memory.
+    /// Returns the change that an UPDATE or DELETE makes to the current rows of its table, if its access path has many
+    /// of them. If WHERE gives a few values for a column, only the rows with one of them are read: of the others WHERE
+    /// is not true. Otherwise all rows are read where they are stored, and only what is touched takes memory.
     fn unkeyed_delta(&self, modification: &Modification) -> Result<Delta, Refusal>
         requires { modification.now.table < length self.now.tables }
         ensures { (p : Table) → slice_get self.now.tables modification.now.table ≡ Some p
@@ -74,7 +75,8 @@ impl<I: IntervalIndex> Held<'_, I> {
     }
 
     /// Returns the change that an UPDATE or DELETE makes to the current rows of its table. It reads only the rows of
-    /// the access path: of the others WHERE is not true, or they share no point with the portion.
+    /// the access path: of the others WHERE is not true, or they share no point with the portion. Where these are many,
+    /// it reads the table as if there were no path.
     pub fn delta_of(&self, modification: &Modification) -> Result<Delta, Refusal>
         requires { modification.now.table < length self.now.tables }
         ensures { (p : Table) → slice_get self.now.tables modification.now.table ≡ Some p
@@ -88,12 +90,13 @@ impl<I: IntervalIndex> Held<'_, I> {
             &modification.conjuncts,
             modification.portion,
         )?;
+        let current = self.store.current(table.id);
         match access.sought() {
-            None => self.unkeyed_delta(modification),
-            Some(sought) => {
+            Some(sought) if !are_many(sought, current, ROWS_OF_A_CHANGE) => {
                 let seen = self.store.look(table.id, When::Now, Some(sought))?;
                 modify(self.memory, table, &seen, modification)
             }
+            _ => self.unkeyed_delta(modification),
         }
     }
 }

@@ -28,17 +28,17 @@ returns g c copies working r wide =
     conds c.args.access.now c.requires.served wide found
     (subst (λ o. SameBag found (filter (λ (v : Version). is_looked_at o v.row.cells)
     (versions_for c.args.snapshot.now copies working s)))
-    c.sought-2.ensures (c.in_ok-versions.ensures.copies c.requires.readable.within copies working r)))
+    c.sought-sought.ensures (c.in_ok-versions.ensures.copies c.requires.readable.within copies working r)))
     (given (λ v. v.items) (keep conds rows) c.passing_rows.result
     (rw c.deref.ensures.value at c.passing_rows.ensures))
 
--- the same for the current rows
-pub returns-in-None-Some : goal.returns-in-None-Some
-returns-in-None-Some g c copies working r wide =
+-- the same for all current rows
+pub returns-then-are_read : goal.returns-then-are_read
+returns-then-are_read g c copies working r wide =
     let conds = map (cond c.args.terms.now) c.args.filter.now in
-    let rows = map (completed (generated c.args.source.system)) (open_ones (versions_of c.in-None-Some.versions.now)) in
+    let rows = map (completed (generated c.args.source.system)) (open_ones (versions_of c.in-Some.versions.now)) in
     let all = bags_in c.args.snapshot.now copies working (source_of c.args.source) in
     regiven (λ v. v.items) (keep conds rows) (keep conds all) c.passing_open.result
     (kept_same c.joins_keep_no_order.ensures conds rows all
-    (same-map (completed (generated c.args.source.system)) (c.in-None-Some.ensures' copies working r)))
+    (same-map (completed (generated c.args.source.system)) (c.in-Some.ensures copies working r)))
     (given (λ v. v.items) (keep conds rows) c.passing_open.result c.passing_open.ensures)

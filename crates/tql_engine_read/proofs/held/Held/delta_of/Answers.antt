@@ -19,6 +19,11 @@ use Rattle.tql_engine_state.proofs.Standing.{some_is}
 use Rattle.tql_engine_read.proofs.Reading.{in_store, widths}
 use Rattle.tql_engine_read.proofs.held.Held.delta_of.Goals as goal
 
+pub current-current-requires : goal.current-current-requires
+current-current-requires g c =
+    in_store _ c.args.self.now c.self.invariant.state c.args.modification.now.table c.table_at-table.result.now
+    c.self.view_is c.self.invariant.stands c.table_at-table.ensures
+
 pub look-requires-clause-there : goal.look-requires-clause-there
 look-requires-clause-there g c =
     in_store _ c.args.self.now c.self.invariant.state c.args.modification.now.table c.table_at-table.result.now
@@ -38,8 +43,8 @@ modify-requires g c =
     (widths _ c.self.invariant.state x.table p (is_looked_at o) c.in_ok-seen-in-Some.seen.items
     c.self.invariant.stands there found)
 
-pub returns : goal.returns
-returns g c p e =
+pub returns-in-Some : goal.returns-in-Some
+returns-in-Some g c p e =
     let q : Table = c.table_at-table.result.now in
     let x : Modification = c.args.modification.now in
     let o : Option Sought = c.in_ok-access.access in
