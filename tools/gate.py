@@ -118,20 +118,20 @@ class Meter(threading.Thread):
         return "\n".join(lines)
 
 
-def ci() -> int:
-    """Runs rt ci in this process, where each crate remembers its answers."""
+def kit():
+    """The kit's rt as a module, where each crate remembers its answers."""
     loader = importlib.machinery.SourceFileLoader("rt", os.path.realpath(shutil.which("rt")))
     rt = importlib.util.module_from_spec(importlib.util.spec_from_loader("rt", loader))
     loader.exec_module(rt)
     for name in REMEMBERED:
         if hasattr(rt.rtlib.Crate, name):
             setattr(rt.rtlib.Crate, name, functools.cache(getattr(rt.rtlib.Crate, name)))
-    return rt.main(["ci"])
+    return rt
 
 
 def main(words: "list[str]") -> int:
     if words == ["--ci"]:
-        return ci()
+        return kit().main(["ci"])
     if words not in ([], ["--plain"]):
         sys.exit(__doc__)
     meter = Meter()

@@ -31,7 +31,7 @@ COLLECTED = re.compile(rb"Collected : (\d+)")
 MADE, ONE = "CREATE TABLE t (x INTEGER, y VARCHAR(65535));\nINSERT INTO t VALUES (1, 'a');\n", "CREATE TABLE\nINSERT 1\n"
 ROW, NONE = "X\n1\n(1 rows)\n", "X\n(0 rows)\n"
 LONGEST = 1048576
-# How digests are mixed for joins, groups and DISTINCT.
+# How numbers are spread for joins, groups and DISTINCT.
 FACTOR = 11_400_714_819_323_198_485
 
 
@@ -284,19 +284,11 @@ def timespans(size: int) -> tuple[str, str]:
 
 
 def chosen(size: int) -> list[int]:
-    """Numbers whose digests are 1, 2, 3 and so on, so that a table of groups begins its search for each at one place."""
-    inverse = pow(FACTOR, -1, 2**64)
-    return [(at * inverse + 2**63) % 2**64 - 2**63 for at in range(1, size + 1)]
-
-
-def chosen_pairs(size: int) -> list[tuple[int, str]]:
-    """Pairs of a number and a text that all have one digest."""
+    """Numbers for which a table of groups of any size begins its search at one place."""
     inverse, made = pow(FACTOR, -1, 2**64), []
-    for at in range(size):
-        mixed = 4711
-        for byte in reversed(b"\x01" + str(at).encode()):
-            mixed = (mixed * inverse - byte) % 2**64
-        made.append(((mixed * inverse + 2**63) % 2**64 - 2**63, str(at)))
+    for at in range(1, size + 1):
+        mixed = at * inverse % 2**64
+        made.append(((mixed ^ mixed >> 32) * inverse + 2**63) % 2**64 - 2**63)
     return made
 
 
@@ -309,9 +301,9 @@ def distinct(size: int) -> tuple[str, str]:
 
 
 def groups(size: int) -> tuple[str, str]:
-    """GROUP BY of n chosen pairs, each once."""
-    script, replies = packed("t", [f"({number}, '{text}')" for number, text in chosen_pairs(size)])
-    return ("CREATE TABLE t (x INTEGER, y VARCHAR(9));\n" + script + "SELECT x FROM t GROUP BY x, y HAVING COUNT(*) > 1;\n",
+    """GROUP BY of n chosen numbers, each once."""
+    script, replies = packed("t", [f"({it}, 'a')" for it in chosen(size)])
+    return ("CREATE TABLE t (x INTEGER, y VARCHAR(9));\n" + script + "SELECT x FROM t GROUP BY x HAVING COUNT(*) > 1;\n",
             "CREATE TABLE\n" + replies + NONE)
 
 
@@ -362,8 +354,8 @@ FORMS = (
     ("SELECTs AS OF by key, versions of one row", 2500, as_of, DOUBLE), ("READs by key, versions of one row", 2500, by_reader, DOUBLE),
     ("PRUNEs of the oldest version of one row, PRUNEs and versions", 300, prunes, DOUBLE),
     ("INSERTs beside tables with references, tables", 110, beside, ALIKE),
-    ("DISTINCT of numbers whose digests were chosen", 2500, distinct, DOUBLE),
-    ("GROUP BY of pairs with one digest", 2500, groups, DOUBLE),
+    ("DISTINCT of numbers that were chosen to collide", 2500, distinct, DOUBLE),
+    ("GROUP BY of numbers that were chosen to collide", 2500, groups, DOUBLE),
     ("SELECTs by a range of five keys, rows", 1250, ranges, DOUBLE),
     ("UPDATEs and DELETEs by a range of five keys, rows", 2500, range_changes, DOUBLE),
 )
