@@ -1,8 +1,8 @@
 """Statements for tables in which few key values have many rows each, now and in the past.
 
 Periods meet, overlap by a point and leave gaps of a point. Portions begin and end at the ends of periods, next to them and between them. References with
-PERIOD span several rows of the parent, and one row has a deep history. The key values include neighbours, the ends of the range, and values chosen to
-have one digest, so that an index which keeps the rows of all values in one order is tried where they lie next to each other."""
+PERIOD span several rows of the parent, and one row has a deep history. The key values include neighbours, the ends of the range, and values for which
+a polynomial is one number, so that an index which keeps the rows of all values in one order is tried where they lie next to each other."""
 from copying.changes import Change, Insert, Portion
 from copying.conditions import Aggregate, All, Chain, Compare, Contains, IsNull, Made, Name, Null, Relation
 from copying.counter import BEGIN, LEAP, RELATIONS
@@ -12,14 +12,14 @@ from copying.queries import From, Select, Span
 from copying.tables import SYSTEM, Column, Definition, NewColumn, NewKey, NewPeriod, NewReference, Table
 from copying.values import DAY, LEAST, MOMENT, MOST, NUMBER, TEXT, Refused, day_of
 
-# How the engine mixes the values of a key into one number of 64 bits.
+# A polynomial that mixes the values of a key into one number of 64 bits.
 FACTOR, WIDTH = 1_099_511_628_211, 2**64
 # How many rows a table has at most, how many lines an answer, and how many pairs a join looks at.
 ROWS, LINES, PAIRS = 90, 30, 2_500
 
 
 def chosen(text: str) -> int:
-    """Returns the number whose digest together with a text is the same for every text."""
+    """Returns the number that the polynomial mixes with a text into the same number for every text."""
     mixed = 1
     for byte in text.encode():
         mixed = (mixed * FACTOR + byte) % WIDTH
@@ -315,7 +315,8 @@ class Crowd(Maker):
         point = self.name(references, left, one.columns[one.ends()[0]].name)
         meets.append(self.any_of((Relation(periods[0], "OVERLAPS", periods[1]), Relation(periods[0], self.any_of(RELATIONS), periods[1]),
                                   Contains(periods[1], point), Contains(periods[0], periods[1]))))
-        names = [(self.name(references, known, table.columns[at].name), None) for known, table in references for at in (*table.ends(), table.column("X"))]
+        places = [(known, table, at) for known, table in references for at in (*table.ends(), table.column("X")) if at is not None]
+        names = [(self.name(references, known, table.columns[at].name), None) for known, table, at in places]
         where = All([*self.keyed(references, left, value), self.timed(references, left, value)])
         join = self.any_of(("JOIN", "LEFT JOIN", ","))
         chains = [From(one.name, self.past(one, 2), left)]
