@@ -21,7 +21,7 @@ size_t tqlc_size(void);
 void tqlc_begin(void *room);
 void tqlc_call(void *at, const struct request *request, const unsigned char *text, size_t length, unsigned char *room, size_t size, struct told *told);
 enum { STEP = 1, FEED, NEXT, FINISH, HEADING, ROW, CELL, BLOCK, SKIP, VERB, WORDS, HINT, CONSTRAINT, FAULT_COLUMN, PLACE, KINDS, JSON, FORGET,
-       OPEN, CLOSE, IN_USE };
+       OPEN, CLOSE, IN_USE, STEP_WITH, PLACES };
 
 /* ---- the table of engines */
 enum { MOST = 4096 };
@@ -159,6 +159,72 @@ static int told_of(tql engine, uint32_t asked, const char *text, int64_t length)
 int tql_run(tql engine, const char *text, int64_t length) { return told_of(engine, STEP, text ? text : "", text ? length : 0); }
 int tql_next(tql engine) { return told_of(engine, NEXT, NULL, 0); }
 int tql_finish(tql engine) { return told_of(engine, FINISH, NULL, 0); }
+
+/* Appends the kind and the number of a value to bytes; returns the end. */
+static char *pack(char *end, int kind, int64_t number) {
+    *end++ = kind < 0 || kind > 255 ? (char)255 : (char)kind;
+    for (int at = 0; at < 64; at += 8) *end++ = (char)((uint64_t)number >> at & 255);
+    return end;
+}
+static size_t length_of(const tql_value *value) {
+    if (value->kind != TQL_TEXT || !value->text) return 0;
+    return value->length < 0 ? strlen(value->text) : (size_t)value->length;
+}
+/* Runs a statement, which the engine's memory has, followed by its values. If nothing is run, the last answer stays. A text that nothing is to be
+ * written into is run as it is, since COMMIT takes no memory. */
+static int run_filled(struct engine *e, size_t length, size_t size, size_t count) {
+    bool plain = !count && !memchr(e->text, '?', length);
+    struct told told = ask(e, plain ? STEP : STEP_WITH, 0, length, count, e->text, plain ? length : length + size, NULL, 0);
+    if (told.kind) e->last = told;
+    return told.kind ? (int)told.kind : TQL_MISUSE;
+}
+int tql_run_packed(tql engine, const char *text, int64_t length, const void *values, size_t size, size_t count) {
+    int why;
+    if (length < -1) return TQL_MISUSE;
+    struct engine *e = take(engine, &why);
+    if (!e) return why;
+    size_t front = !text ? 0 : length < 0 ? strlen(text) : (size_t)length;
+    why = TQL_NOMEM;
+    if (size < SIZE_MAX / 4 && front < SIZE_MAX / 4 && grown(e, front + size + 1)) {
+        if (front) memcpy(e->text, text, front);
+        if (size) memcpy(e->text + front, values, size);
+        why = run_filled(e, front, size, count);
+    }
+    leave(e);
+    return why;
+}
+int tql_run_with(tql engine, const char *text, int64_t length, const tql_value *values, size_t count) {
+    int why;
+    if (length < -1) return TQL_MISUSE;
+    for (size_t at = 0; at < count; at++) if (values[at].length < -1) return TQL_MISUSE;
+    struct engine *e = take(engine, &why);
+    if (!e) return why;
+    size_t front = !text ? 0 : length < 0 ? strlen(text) : (size_t)length, size = 0;
+    for (size_t at = 0; at < count && size < SIZE_MAX / 4; at++) size += 9 + length_of(&values[at]);
+    why = TQL_NOMEM;
+    if (size < SIZE_MAX / 4 && front < SIZE_MAX / 4 && grown(e, front + size + 1)) {
+        if (front) memcpy(e->text, text, front);
+        char *end = e->text + front;
+        for (size_t at = 0; at < count; at++) {
+            size_t bytes = length_of(&values[at]);
+            end = pack(end, values[at].kind, values[at].kind == TQL_TEXT ? (int64_t)bytes : values[at].number);
+            if (bytes) memcpy(end, values[at].text, bytes);
+            end += bytes;
+        }
+        why = run_filled(e, front, size, count);
+    }
+    leave(e);
+    return why;
+}
+int64_t tql_places(tql engine, const char *text, int64_t length) {
+    int why;
+    if (length < -1) return -1;
+    struct engine *e = take(engine, &why);
+    if (!e) return -1;
+    struct told told = ask(e, PLACES, 0, 0, 0, text, !text ? 0 : length < 0 ? strlen(text) : (size_t)length, NULL, 0);
+    leave(e);
+    return told.number;
+}
 
 int tql_feed(tql engine, const char *text, int64_t length, size_t *taken) {
     int why;

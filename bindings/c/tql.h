@@ -63,6 +63,22 @@ int tql_close(tql engine);
 /* Runs one statement, with or without a ';' at its end. Returns TQL_DONE, TQL_TABLE or TQL_REFUSED. The answer replaces the one before. */
 int tql_run(tql engine, const char *text, int64_t length);
 
+/* A value: its kind, and its number (a DATE in days, a TIMESTAMP in microseconds since 1970) or its text, of which the length may be -1. */
+typedef struct { int kind; int64_t number; const char *text; int64_t length; } tql_value;
+
+/* Runs one statement with values: each '?' outside quotes and comments is the place of one, in their order. The answer is that of tql_run to the
+ * text in which the literal of each value, between blanks, is in its place, so no value is ever read as SQL. Returns what tql_run returns; or
+ * TQL_MISUSE, and nothing is run, if there are more or fewer values than places, a kind is none, a DATE or TIMESTAMP is not in the years 1 to
+ * 9999, or a text is not UTF-8; or TQL_NOMEM. */
+int tql_run_with(tql engine, const char *text, int64_t length, const tql_value *values, size_t count);
+
+/* As tql_run_with, with the `count` values in `size` bytes: of each 1 byte of its kind, 8 bytes of its number, little-endian (of a text its
+ * length), and the bytes of a text. */
+int tql_run_packed(tql engine, const char *text, int64_t length, const void *values, size_t size, size_t count);
+
+/* Returns the number of places for values in a text; -1 if the number names no open engine. */
+int64_t tql_places(tql engine, const char *text, int64_t length);
+
 /* Passes a part of a script, in which a ';' ends each statement. The parts may be cut anywhere. Takes at most 65,536 bytes, and none while
  * tql_next has statements left; `taken` (may be null) receives how many. Returns TQL_OK or TQL_NOMEM. */
 int tql_feed(tql engine, const char *text, int64_t length, size_t *taken);

@@ -75,6 +75,8 @@ int main(int count, char **words) {
         CHECK(tql_json(none[i], NULL) == NULL && tql_words(none[i]) == NULL);
         CHECK(tql_feed(none[i], ";", 1, &n) == TQL_MISUSE && tql_next(none[i]) == TQL_MISUSE && tql_finish(none[i]) == TQL_MISUSE);
         CHECK(tql_kinds(none[i], "SELECT 1", -1, NULL, 0) == TQL_MISUSE);
+        CHECK(tql_run_with(none[i], "SELECT 1", -1, NULL, 0) == TQL_MISUSE && tql_run_packed(none[i], "SELECT 1", -1, NULL, 0, 0) == TQL_MISUSE);
+        CHECK(tql_places(none[i], "?", -1) == -1);
         CHECK(tql_block(none[i], 0, 0, 1, NULL, 0, NULL, NULL) == TQL_MISUSE && tql_skip(none[i], 1) == 0 && tql_rows_left(none[i]) == 0);
     }
     /* before any answer */
@@ -120,6 +122,22 @@ int main(int count, char **words) {
     CHECK(tql_block(e, 0, UINT64_MAX, UINT64_MAX, room, 0, &rows, &n) == TQL_OK && rows == 0 && n == 0);
     CHECK(tql_block(e, -1, 0, 2, room, 18, &rows, &n) == TQL_MISUSE);
     CHECK(tql_skip(e, UINT64_MAX) == 2 && tql_skip(e, 1) == 0);
+    /* values */
+    tql_value one = {TQL_INTEGER, 1, NULL, 0}, text = {TQL_TEXT, 0, "it's ?", -1}, none_ = {TQL_NULL, 5, "x", 1};
+    tql_value both[] = {text, one}, odd[] = {{5, 0, NULL, 0}, {-1, 0, NULL, 0}, {TQL_TEXT, 0, "\xff", 1}, {TQL_DATE, 2932897, NULL, 0}, {TQL_TIMESTAMP, INT64_MIN, NULL, 0}};
+    CHECK(tql_places(e, "SELECT '?' \"?\" -- ?\n?-?", -1) == 2 && tql_places(e, NULL, 7) == 0 && tql_places(e, "?", -2) == -1);
+    CHECK(tql_run_with(e, "UPDATE t SET b = ? WHERE a = ?;", -1, both, 2) == TQL_DONE && tql_changes(e) == 1);
+    CHECK(tql_run_with(e, "SELECT a, b FROM t WHERE b = ?", -1, &text, 1) == TQL_TABLE && tql_row(e) == TQL_ROW && !strcmp(tql_text(e, 1, &n), "it's ?") && n == 6);
+    CHECK(tql_run_with(e, "SELECT a FROM t", -1, both, 1) == TQL_MISUSE && tql_run_with(e, "SELECT a FROM t WHERE a = ?", -1, NULL, 0) == TQL_MISUSE);
+    CHECK(tql_columns(e) == 2 && tql_int64(e, 0) == 1);
+    for (unsigned i = 0; i < sizeof odd / sizeof *odd; i++) CHECK(tql_run_with(e, "SELECT a FROM t WHERE a = ?", -1, &odd[i], 1) == TQL_MISUSE);
+    text.length = -2;
+    CHECK(tql_run_with(e, "SELECT a FROM t WHERE b = ?", -1, &text, 1) == TQL_MISUSE && tql_columns(e) == 2);
+    CHECK(tql_run_with(e, "UPDATE t SET b = ? WHERE a = 1", -1, &none_, 1) == TQL_DONE && tql_run_with(e, "COMMIT", 6, NULL, 0) == TQL_REFUSED && tql_error(e) == 40);
+    CHECK(tql_run_with(e, "SELECT ? FROM t", -1, &one, 1) != TQL_MISUSE && tql_run_with(e, NULL, 3, NULL, 0) == TQL_REFUSED && tql_error(e) == 10);
+    CHECK(tql_run_packed(e, "SELECT a FROM t WHERE a > ?", -1, "\1\0\0\0\0\0\0\0\0", 9, 1) == TQL_TABLE && tql_rows_left(e) == 2);
+    CHECK(tql_run_packed(e, "SELECT a FROM t WHERE a > ?", -1, "\1\0\0\0\0\0\0\0", 8, 1) == TQL_MISUSE && tql_run_packed(e, "?", 1, NULL, 0, UINT64_MAX) == TQL_MISUSE);
+    CHECK(tql_run(e, "UPDATE t SET b = 'x' WHERE a = 1", -1) == TQL_DONE);
     /* a long text: more than the room that is there at first */
     char *long_one = malloc(20100);
     int at = sprintf(long_one, "INSERT INTO t VALUES (3, '");

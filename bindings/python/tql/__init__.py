@@ -30,7 +30,7 @@ from . import _library
 from ._errors import (DatabaseError, DataError, Error, IntegrityError, InterfaceError, InternalError, NotSupportedError, OperationalError,
                       ProgrammingError, Warning, class_of)
 from ._library import library as _c, string_at as _string_at
-from ._values import column_of as _column_of, row_of as _row_of, with_rows as _with_rows, with_values as _with_values
+from ._values import column_of as _column_of, packed as _packed, placed as _placed, row_of as _row_of, shown as _shown
 
 if TYPE_CHECKING:
     import pandas
@@ -186,10 +186,10 @@ class Connection:
                 other._keep()
         return engine
 
-    def _end(self, answer: int, text: str) -> int:
+    def _end(self, answer: int, text: str, values: "Sequence[Any]" = ()) -> int:
         """Returns an answer that is neither a refusal nor an error, and raises any other."""
         if answer == _library.REFUSED:
-            raise self._error(text)
+            raise self._error(_shown(text, values) if values else text)
         if answer < 0:
             raise OperationalError("there is no memory") if answer == _library.NOMEM else ProgrammingError("another thread uses the connection")
         return answer
@@ -229,7 +229,7 @@ class Cursor:
         self.lastrowid: None = None
         self._names: "list[str] | None" = None
         self._kinds: "list[str | None] | None" = None
-        self._text = ""
+        self._asked: "tuple[str, Sequence[Any]]" = ("", ())
         self._rows: "list[Row]" = []
         self._at = 0
         self._left = 0
@@ -239,10 +239,11 @@ class Cursor:
     # ---- running
     def execute(self, statement: str, parameters: Parameters = ()) -> "Cursor":
         """Runs one statement, with or without a `;` at its end."""
-        text = _with_values(statement, parameters)
+        text, values = _placed(statement, parameters)
+        data = _packed(values)
         engine = self._start()
-        self._text = text
-        self._take(self._run(engine, text), engine)
+        self._asked = text, values
+        self._take(self._run(engine, text, values, data), engine)
         return self
 
     def executemany(self, statement: str, rows: Iterable[Parameters]) -> "Cursor":
@@ -261,8 +262,7 @@ class Cursor:
                 self._insert(engine, front, row, some)
             return self
         for it in rows:
-            text = _with_values(statement, it)
-            if self._run(engine, text) == _library.TABLE:
+            if self._run(engine, *_placed(statement, it)) == _library.TABLE:
                 raise ProgrammingError("executemany is for statements without rows")
             count = _c.tql_changes(engine)
             if count < 0:
@@ -272,25 +272,34 @@ class Cursor:
                 self.rowcount += count
         return self
 
-    def _run(self, engine: int, text: str) -> int:
+    def _run(self, engine: int, statement: str, values: "Sequence[Any]" = (), data: "bytes | None" = None) -> int:
         try:
-            data = text.encode()
+            text = statement.encode()
         except UnicodeEncodeError:
             raise DataError("a text has half of a surrogate pair") from None
-        answer = _c.tql_run(engine, data, len(data))
-        return answer if answer == 1 else self.connection._end(answer, text)
+        if not values and b"?" not in text:
+            answer = _c.tql_run(engine, text, len(text))
+        else:
+            data = _packed(values) if data is None else data
+            answer = _c.tql_run_packed(engine, text, len(text), data, len(data), len(values))
+            if answer == _library.MISUSE:
+                raise ProgrammingError(f"the statement has {_c.tql_places(engine, text, len(text))} parameters, and {len(values)} values were passed")
+        return answer if answer == 1 else self.connection._end(answer, statement, values)
 
     def _insert(self, engine: int, front: str, row: str, rows: "list[Parameters]") -> None:
         """Inserts rows. If one is refused, those before it stay, as if each were inserted by itself."""
+        count = row.count("?")
         try:
-            self._run(engine, front + ",".join(_with_rows(row, rows)))
-            self.rowcount += len(rows)
+            if all((type(it) is tuple or type(it) is list) and len(it) == count for it in rows):
+                self._run(engine, front + ",".join([row] * len(rows)), [value for it in rows for value in it])
+                self.rowcount += len(rows)
+                return
         except Error:
             if len(rows) == 1:
                 raise
-            for it in rows:
-                self._run(engine, front + _with_values(row, it))
-                self.rowcount += 1
+        for it in rows:
+            self._run(engine, *_placed(front + row, it))
+            self.rowcount += 1
 
     def executescript(self, script: str) -> "Cursor":
         """Runs the statements of a script, each of which ends with a `;`. The first refusal ends it, and the rest is not run. Rows of
@@ -366,7 +375,7 @@ class Cursor:
         return [(name, kind, None, None, None, None, None) for name, kind in zip(self._names, self._kinds)]
 
     def _kinds_of(self) -> "list[str | None]":
-        count, text = len(self._names or ()), self._text.encode()
+        count, text = len(self._names or ()), _shown(*self._asked).encode()
         room = (ctypes.c_ubyte * max(count, 1))()
         if self.connection._engine and _c.tql_kinds(self.connection._engine, text, len(text), room, count) == count:
             return [_CODES[it] for it in room[:count]]

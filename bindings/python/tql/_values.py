@@ -1,8 +1,9 @@
-"""Literals of parameters, and the cells of answers."""
+"""Values of parameters, and the cells of answers."""
 from __future__ import annotations
 
 import datetime
 import re
+import struct
 from functools import lru_cache
 from typing import Any, Mapping, Sequence
 
@@ -17,92 +18,84 @@ _PIECE = re.compile(r"""'[^']*'?|"[^"]*"?|--[^\n]*|(\?)|:([A-Za-z_]\w*)|[^'"?:\-
 
 
 @lru_cache(maxsize=512)
-def pieces_of(statement: str) -> tuple[str, tuple[str | None, ...]]:
-    """Returns the statement as a template in which each parameter is `%s`, and the parameters: None for `?`, a name for `:name`. There are none
-    in quotes and comments."""
+def _places_of(statement: str) -> tuple[str, tuple[str | None, ...]]:
+    """Returns the statement with `?` in the place of each `:name`, and its parameters: None for `?`, a name for `:name`. There are none in quotes
+    and comments."""
     made, names = [], []
     for piece in _PIECE.finditer(statement):
         if piece.lastindex:
-            made.append("%s")
             names.append(piece[2])
-        else:
-            made.append(piece[0].replace("%", "%%"))
+        made.append("?" if piece.lastindex else piece[0])
     if any(names) and None in names:
         raise ProgrammingError("the statement has `?` and `:name`: write one of them")
     return "".join(made), tuple(names)
 
 
-def _text(value: str) -> str:
-    return f" '{value}' " if "'" not in value else " '" + value.replace("'", "''") + "' "
+_bytes = struct.Struct("<Bq").pack
 
 
-def _integer(value: int) -> str:
-    if -9223372036854775808 <= value <= 9223372036854775807:
-        return f" {value} "
-    raise DataError(f"{value} has more than 64 bits")
+def _text(value: str) -> bytes:
+    try:
+        data = value.encode()
+    except UnicodeEncodeError:
+        raise DataError("a text has half of a surrogate pair") from None
+    return _bytes(2, len(data)) + data
 
 
-def _date(value: datetime.date) -> str:
-    return f" DATE '{value.isoformat()}' "
+def _integer(value: int) -> bytes:
+    try:
+        return _bytes(1, value)
+    except struct.error:
+        raise DataError(f"{value} has more than 64 bits") from None
 
 
-def _timestamp(value: datetime.datetime) -> str:
+def _date(value: datetime.date) -> bytes:
+    return _bytes(3, value.toordinal() - _FIRST_DAY)
+
+
+def _timestamp(value: datetime.datetime) -> bytes:
     if value.tzinfo is not None:
         raise InterfaceError("a TIMESTAMP has no time zone: pass a datetime without one")
-    return f" TIMESTAMP '{value.isoformat(sep=' ')}' "
+    since = value - _EPOCH
+    return _bytes(4, (since.days * 86400 + since.seconds) * 1_000_000 + since.microseconds)
 
 
-# The literal of a value, by its class. It has a blank on both sides, so that it joins no neighbour.
-_LITERALS = {str: _text, int: _integer, type(None): lambda value: " NULL ", bool: lambda value: f" {int(value)} ",
-             datetime.date: _date, datetime.datetime: _timestamp}
+# The bytes of a value, by its class, as `tql_run_packed` takes them.
+_BYTES = {str: _text, int: _integer, type(None): lambda value: _bytes(0, 0), bool: lambda value: _bytes(1, value),
+          datetime.date: _date, datetime.datetime: _timestamp}
 
 
-def literal(value: Any) -> str:
-    """Returns the literal of a value."""
-    made = _LITERALS.get(type(value))
-    if made:
-        return made(value)
-    # Subclasses; a datetime is a date too.
+def _plain(value: Any) -> Any:
+    """Returns a value of a subclass as one of its class; a datetime is a date too."""
     for kind, base in ((str, str.__str__), (int, int.__int__)):
         if isinstance(value, kind):
-            return _LITERALS[kind](base(value))
-    for kind in (datetime.datetime, datetime.date):
-        if isinstance(value, kind):
-            return _LITERALS[kind](value)
+            return base(value)
+    if isinstance(value, datetime.datetime):
+        return datetime.datetime.combine(datetime.date(value.year, value.month, value.day), value.timetz())
+    if isinstance(value, datetime.date):
+        return datetime.date(value.year, value.month, value.day)
     raise InterfaceError(f"a parameter is None, an int, a str, a date or a datetime, and not a {type(value).__name__}")
 
 
-def with_values(statement: str, values: Sequence[Any] | Mapping[str, Any]) -> str:
-    """Returns the statement with the literals of values in the places of its parameters."""
-    template, names = pieces_of(statement)
+def packed(values: Sequence[Any]) -> bytes:
+    """Returns the bytes of values."""
+    try:
+        return b"".join([_BYTES[type(value)](value) for value in values])
+    except KeyError:
+        plain = [value if type(value) in _BYTES else _plain(value) for value in values]
+        return b"".join([_BYTES[type(value)](value) for value in plain])
+
+
+def placed(statement: str, values: Sequence[Any] | Mapping[str, Any]) -> tuple[str, Sequence[Any]]:
+    """Returns the statement with `?` as its parameters, and the values in their order."""
     if type(values) is not tuple and type(values) is not list:
         if isinstance(values, str):
             raise InterfaceError("the parameters are a sequence of values, and not one str")
-        values = _listed(names, values)
-    elif names and names[0]:
+        statement, names = _places_of(statement)
+        return statement, _listed(names, values)
+    if ":" in statement and any(_places_of(statement)[1]):
         raise ProgrammingError("the statement has `:name`: pass a mapping")
-    if len(values) != len(names):
-        raise ProgrammingError(f"the statement has {len(names)} parameters, and {len(values)} values were passed")
-    if not names:
-        return statement
-    try:
-        return template % tuple([_LITERALS[type(value)](value) for value in values])
-    except KeyError:
-        return template % tuple([literal(value) for value in values])
-
-
-def with_rows(row: str, rows: Sequence[Any]) -> list[str]:
-    """Returns, for each of some sequences of values, the text of a row with their literals; as one text if each is a tuple or a list of the
-    right length."""
-    template, names = pieces_of(row)
-    count = len(names)
-    if all((type(it) is tuple or type(it) is list) and len(it) == count for it in rows):
-        try:
-            made = [_LITERALS[type(value)](value) for it in rows for value in it]
-            return [",".join([template] * len(rows)) % tuple(made)]
-        except KeyError:
-            pass
-    return [with_values(row, it) for it in rows]
+    return statement, values
 
 
 def _listed(names: tuple[str | None, ...], values: Any) -> list[Any]:
@@ -117,6 +110,26 @@ def _listed(names: tuple[str | None, ...], values: Any) -> list[Any]:
         return [values[name] for name in names]
     except KeyError as missing:
         raise ProgrammingError(f"there is no value for :{missing.args[0]}") from None
+
+
+def shown(statement: str, values: Sequence[Any]) -> str:
+    """Returns the text that is run, with the literals of the values, to show it. `statement` has as many `?`."""
+    pieces, literals = [], iter(values)
+    for piece in _PIECE.finditer(statement):
+        pieces.append(_literal(next(literals)) if piece[1] else piece[0])
+    return "".join(pieces)
+
+
+def _literal(value: Any) -> str:
+    if value is None:
+        return " NULL "
+    if isinstance(value, int):
+        return f" {int(value)} "
+    if isinstance(value, datetime.datetime):
+        return f" TIMESTAMP '{value.isoformat(sep=' ')}' "
+    if isinstance(value, datetime.date):
+        return f" DATE '{value.isoformat()}' "
+    return " '" + str.__str__(value).replace("'", "''") + "' "
 
 
 _MANY = re.compile(r"""(\s*INSERT\s+INTO\s+(?:[\w.]+|"[^"]*")\s*(?:\([^()'"?:]*\)\s*)?VALUES\s*)(\([^()'":\-]*\))\s*;?\s*""", re.IGNORECASE)

@@ -46,6 +46,8 @@ pub enum Error {
     Busy,
     /// The statement has another number of parameters than values were passed.
     Parameters { wanted: usize, passed: usize },
+    /// A day or a moment that was passed is outside of the years 1 to 9999.
+    Range,
 }
 
 impl Refusal {
@@ -92,6 +94,7 @@ impl fmt::Display for Error {
             Error::Parameters { wanted, passed } => {
                 write!(f, "the statement has {wanted} parameters, and {passed} values were passed")
             }
+            Error::Range => f.write_str("a day or a moment is outside of the years 1 to 9999"),
         }
     }
 }

@@ -1,64 +1,59 @@
 //! Statements with parameters.
-use crate::{Answer, Engine, Error, Rows, Value};
+use crate::{raw, Answer, Engine, Error, Rows, Value};
+use std::os::raw::c_int;
 
 /// A statement with `?` in place of literals. It is run with values, each of which is passed as one literal, so no value is ever read as SQL.
 #[derive(Clone, Debug)]
 pub struct Statement {
-    /// The texts between the parameters, one more than these.
-    texts: Vec<String>,
+    text: String,
+}
+
+/// Returns a value as C has it. It points to the text.
+fn passed(value: &Value) -> raw::Value {
+    let (kind, number, text) = match value {
+        Value::Null => (0, 0, ""),
+        Value::Integer(number) => (1, *number, ""),
+        Value::Text(text) => (2, 0, text.as_str()),
+        Value::Date(day) => (3, day.0, ""),
+        Value::Timestamp(moment) => (4, moment.0, ""),
+    };
+    raw::Value { kind, number, text: text.as_ptr().cast(), length: text.len() as i64 }
 }
 
 impl Statement {
-    /// Finds the parameters of a text. There are none in quotes and comments.
+    /// Makes a statement of a text. Its parameters are the `?` outside quotes and comments.
     pub fn new(text: &str) -> Statement {
-        let (mut texts, mut now) = (Vec::new(), String::new());
-        let mut within: Option<char> = None;
-        let mut before = ' ';
-        for it in text.chars() {
-            match within {
-                Some(end) if it == end => within = None,
-                Some(_) => {}
-                None if it == '\'' || it == '"' => within = Some(it),
-                None if it == '-' && before == '-' => within = Some('\n'),
-                None if it == '?' => {
-                    texts.push(std::mem::take(&mut now));
-                    before = ' ';
-                    continue;
-                }
-                None => {}
-            }
-            before = it;
-            now.push(it);
-        }
-        texts.push(now);
-        Statement { texts }
+        Statement { text: text.to_owned() }
     }
 
-    /// Returns the number of parameters.
-    pub fn parameters(&self) -> usize {
-        self.texts.len() - 1
+    /// Returns the number of parameters. Any engine counts them.
+    pub fn parameters(&self, engine: &Engine) -> usize {
+        let count = unsafe { raw::tql_places(engine.number, self.text.as_ptr().cast(), self.text.len() as i64) };
+        usize::try_from(count).unwrap_or(0)
     }
 
-    /// Returns the text with the literals of values. Each has a blank on both sides, so that it joins no neighbour.
-    pub fn text(&self, values: &[Value]) -> Result<String, Error> {
-        if values.len() != self.parameters() {
-            return Err(Error::Parameters { wanted: self.parameters(), passed: values.len() });
+    fn answered(&self, engine: &mut Engine, values: &[Value]) -> Result<c_int, Error> {
+        let passed: Vec<raw::Value> = values.iter().map(passed).collect();
+        let (text, length) = (self.text.as_ptr().cast(), self.text.len() as i64);
+        match unsafe { raw::tql_run_with(engine.number, text, length, passed.as_ptr(), passed.len()) } {
+            raw::MISUSE => match self.parameters(engine) {
+                wanted if wanted == values.len() => Err(Error::Range),
+                wanted => Err(Error::Parameters { wanted, passed: values.len() }),
+            },
+            answer => Ok(answer),
         }
-        let mut text = self.texts[0].clone();
-        for (value, rest) in values.iter().zip(&self.texts[1..]) {
-            text.push_str(&format!(" {value} "));
-            text.push_str(rest);
-        }
-        Ok(text)
     }
 
     /// Runs it with values, as [`Engine::query`] does.
     pub fn query<'a>(&self, engine: &'a mut Engine, values: &[Value]) -> Result<Rows<'a>, Error> {
-        engine.query(&self.text(values)?)
+        let answer = self.answered(engine, values)?;
+        engine.checked(answer)?;
+        Ok(engine.rows())
     }
 
     /// Runs it with values.
     pub fn run<'a>(&self, engine: &'a mut Engine, values: &[Value]) -> Result<Answer<'a>, Error> {
-        engine.run(&self.text(values)?)
+        let answer = self.answered(engine, values)?;
+        engine.answer(answer)
     }
 }

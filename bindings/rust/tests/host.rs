@@ -107,12 +107,22 @@ fn t09_texts_that_attack() {
 
 #[test]
 fn t10_parameters_in_quotes_and_comments() {
-    let it = Statement::new("SELECT '?', \"?\" -- ?\n, ? FROM t WHERE a -? = 'it''s ?' ");
-    assert_eq!(it.parameters(), 2);
-    assert_eq!(
-        it.text(&[1.into(), Value::Integer(-2)]).unwrap(),
-        "SELECT '?', \"?\" -- ?\n,  1  FROM t WHERE a - -2  = 'it''s ?' "
-    );
+    let mut it = engine();
+    let found = Statement::new("SELECT b AS \"?\" -- ?\nFROM t WHERE b <> '?' AND a -? = ? AND b = 'it''s ?'");
+    assert_eq!(found.parameters(&it), 2);
+    it.execute("INSERT INTO t (a, b) VALUES (1, 'it''s ?'), (2, 'it''s ?')").unwrap();
+    let rows = found.query(&mut it, &[Value::Integer(-2), 3.into()]).unwrap();
+    assert_eq!((rows.names().to_vec(), rows.len()), (vec!["?".to_string()], 1));
+}
+
+#[test]
+fn t10_days_out_of_range() {
+    let mut it = engine();
+    let insert = Statement::new("INSERT INTO t (a, c) VALUES (?, ?)");
+    let answer = insert.run(&mut it, &[1.into(), Value::Date(Date(2_932_897))]).map(|_| ());
+    assert_eq!(answer, Err(Error::Range));
+    insert.run(&mut it, &[1.into(), Value::Date(Date(2_932_896))]).unwrap();
+    assert_eq!(all(&mut it, "SELECT a FROM t"), vec![vec![1.into()]]);
 }
 
 #[test]

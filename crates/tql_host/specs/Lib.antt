@@ -1,2 +1,3 @@
 pub mod Kinds
 pub mod Serving
+pub mod Values

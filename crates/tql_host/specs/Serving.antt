@@ -1,14 +1,18 @@
 -- How a host serves a request.
 use Rattle.std.specs.Prelude.{◌≡◌, ◌⊎◌, ℕ, List, Option, Some, None, option_map, pos, is_some, Result, Vec}
-use Rattle.std.specs.Prelude.{if◌then◌else◌}
+use Rattle.std.specs.Prelude.{◌==◌, drop, length, take, MatchBool, if◌then◌else◌}
 use Rattle.std.specs.declared.alloc.Global.{Global}
+use Rattle.tql_spec.specs.Datum.{Datum}
 use Rattle.tql_spec.specs.Machine.{State, new_state}
 use Rattle.tql_memory.specs.Handle.{Handle}
 use Rattle.tql_value.specs.declared.refusal.Refusal.{Refusal}
+use Rattle.tql_value.specs.declared.refusal.Refusal.TheVariants.{OutOfMemory}
 use Rattle.tql_value.specs.declared.value.Kind.{Kind}
 use Rattle.tql_run.specs.Ending.{Responds}
 use Rattle.tql_engine_state.specs.Stands.{StandsFor}
 use Rattle.tql_engine_read.specs.ColumnKinds.{TextTellsKinds}
+use Rattle.tql_places.specs.Places.{filled, places}
+use Rattle.tql_places.specs.Passed.{values_passed}
 use Rattle.tql_host_cells.specs.declared.requests.Request.{Request}
 use Rattle.tql_host_cells.specs.declared.requests.Told.{Told}
 use Rattle.tql_host_cells.specs.declared.requests.Asked.{Asked}
@@ -18,12 +22,14 @@ use Rattle.tql_host_cells.specs.Texts.{copied}
 use Rattle.tql_host_cells.specs.Cells.{nothing, text_in, told_cell}
 use Rattle.tql_host_cells.specs.Block.{block, column_of}
 use Rattle.tql_host_cursor.specs.Cursors.{CursorModel, idle, shown}
-use Rattle.tql_host_cursor.specs.Parts.{cell_shown, copied_known, gone_over, part_of, rows_asked, table_of}
+use Rattle.tql_host_cursor.specs.Parts.{cell_shown, copied_known, gone_over, part_of, refused_as}
+use Rattle.tql_host_cursor.specs.Parts.{rows_asked, table_of}
 use Rattle.tql_host_cursor.specs.Parts.{told_answer, told_block, told_known, told_place, told_row, told_skip}
 use Rattle.tql_host_cursor.specs.Parts.{with_block}
 use Rattle.tql_host_cursor.specs.Moves.{AnswersText, AnswersScript, EndsScript, FeedsScript, ShowsJson}
 use Rattle.tql_host_cursor.specs.Statements.{statement_text}
 use Rattle.tql_host.specs.Kinds.{told_kinds, put_kinds}
+use Rattle.tql_host.specs.Values.{told_places}
 use Rattle.tql_host.specs.declared.host.Held.{Held}
 use Rattle.tql_host.specs.declared.host.Host.{Host}
 
@@ -44,12 +50,16 @@ pub record Back : Type 0 where
 
 -- ---- requests that run statements
 
+-- the statement with this text is answered
+pub record StepsText (text : List ℕ) (old new : Held) (t : Told) : Type 0 where
+  pub answered : AnswersText Responds (statement_text text) new.cursor.answer
+      (StandsFor old.engine) (StandsFor new.engine)
+  pub told : t ≡ told_answer 1 new.cursor.answer
+  pub cursor : new.cursor ≡ shown new.cursor.answer new.cursor.detail 1 old.cursor
+
 -- a statement is answered
 pub record Steps (s : Sent) (old new : Held) (r : Back) : Type 0 where
-  pub answered : AnswersText Responds (statement_text s.text) new.cursor.answer
-      (StandsFor old.engine) (StandsFor new.engine)
-  pub told : r.told ≡ told_answer 1 new.cursor.answer
-  pub cursor : new.cursor ≡ shown new.cursor.answer new.cursor.detail 1 old.cursor
+  pub steps : StepsText s.text old new r.told
   pub room : r.room ≡ s.room
 
 -- the next statement of a script is answered
@@ -65,6 +75,25 @@ pub record Finishes (s : Sent) (old new : Held) (r : Back) : Type 0 where
   pub told : r.told ≡ told_answer new.cursor.line new.cursor.answer
   pub gone : new.cursor.gone ≡ 0
   pub room : r.room ≡ s.room
+
+-- there was no memory for the text of a statement with values
+pub record LacksMemory (old new : Held) (t : Told) : Type 0 where
+  pub engine : new.engine ≡ old.engine
+  pub cursor : new.cursor ≡ shown (refused_as OutOfMemory) None 1 old.cursor
+  pub told : t ≡ told_answer 1 (refused_as OutOfMemory)
+
+-- values that are passed with a statement: none are found, or not as many as its places, and nothing is done; or it is
+-- answered as the text with their literals is
+abbrev pub StepsAs : (text : List ℕ) → Option (List Datum) → (old new : Held) → Told → Type 0
+StepsAs text None old new told = (new ≡ old) × (told ≡ nothing)
+StepsAs text (Some values) old new told = MatchBool (length values == places text)
+    (StepsText (filled text values) old new told) ((new ≡ old) × (told ≡ nothing))
+
+-- the same, or there was no memory; the values follow the text of the statement
+abbrev pub StepsWith : Request → (sent : List ℕ) → (old new : Held) → Told → Type 0
+StepsWith request sent old new told =
+    let values = values_passed request.count (drop request.start sent) in
+    StepsAs (take request.start sent) values old new told ⊎ LacksMemory old new told
 
 -- ---- requests that leave the engine as it was
 
@@ -132,6 +161,8 @@ Does asked.Json s old new r = Jsons s old new r
 Does asked.Place s old new r = Tells (told_place old.cursor) s.room old new r
 Does asked.Kinds s old new r = TellsKinds (StandsFor old.engine) s.text s.room r.room r.told × (new ≡ old)
 Does asked.InUse s old new r = Uses r.told × (r.room ≡ s.room) × (new ≡ old)
+Does asked.StepWith s old new r = StepsWith s.request s.text old new r.told × (r.room ≡ s.room)
+Does asked.Places s old new r = Tells (told_places s.text) s.room old new r
 Does asked.Open s old new r = Tells nothing s.room old new r
 Does asked.Close s old new r = Tells nothing s.room old new r
 Does a s old new r =

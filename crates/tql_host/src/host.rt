@@ -5,14 +5,16 @@ ghost use Rattle.tql_engine_state.specs.Stands.{StandsFor};
 ghost use Rattle.tql_host_cells.specs.Cells.{nothing};
 ghost use Rattle.tql_host_cursor.specs.Cursors.{idle};
 ghost use Rattle.tql_host_cursor.specs.Parts.{copied_known, part_of, told_known};
-ghost use Rattle.tql_host.specs.Serving.{Answers, Does, DoesWith, Opens, TellsKinds, Uses, fresh};
+ghost use Rattle.tql_host.specs.Serving.{Answers, Does, DoesWith, Opens, StepsWith, TellsKinds, Uses, fresh};
 
 use crate::kinds::put_kinds;
+use crate::values::{filled_text, tell_places};
 use std::alloc::Global;
-use tql::{Engine, Memory, memory_within};
+use tql::{Engine, Memory, Refusal, memory_within};
 use tql_host_cells::requests::{Asked, Request, Told};
 use tql_host_cursor::cursor::Cursor;
 use tql_host_cursor::statement::statement_text;
+use tql_places::places::Unfilled;
 
 /// An engine with its last answer.
 struct Held {
@@ -97,6 +99,18 @@ impl Held {
         put_kinds(&self.engine.column_kinds(statement_text(text)), room)
     }
 
+    /// Runs a statement with the values that follow its text, as `step` runs the text with their literals. Does nothing
+    /// if the values are not as many as the places of the text, or are none.
+    fn step_with(&mut self, request: Request, text: &[u8]) -> Told
+        ensures { StepsWith request text.now self.old self.new result }
+    {
+        match filled_text(self.memory, request, text) {
+            Ok(filled) => self.cursor.step(&mut self.engine, filled.as_slice()),
+            Err(Unfilled::OutOfMemory) => self.cursor.refuse(Refusal::OutOfMemory),
+            Err(Unfilled::WrongNumber) | Err(Unfilled::NoValues) => Told::nothing(),
+        }
+    }
+
     /// Tells the number of bytes in use.
     fn in_use(&self) -> Told
         ensures { Uses result }
@@ -138,6 +152,8 @@ impl Held {
             Asked::Place => self.cursor.place(),
             Asked::Kinds => self.kinds(text, room),
             Asked::InUse => self.in_use(),
+            Asked::StepWith => self.step_with(request, text),
+            Asked::Places => tell_places(text),
             Asked::Heading => self.text(Asked::Heading, request, room),
             Asked::Verb => self.text(Asked::Verb, request, room),
             Asked::Words => self.text(Asked::Words, request, room),

@@ -3,3 +3,4 @@
 
 pub mod host;
 mod kinds;
+mod values;

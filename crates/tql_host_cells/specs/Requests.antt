@@ -26,7 +26,9 @@ number_of asked.Forget = 18
 number_of asked.Open = 19
 number_of asked.Close = 20
 number_of asked.InUse = 21
+number_of asked.StepWith = 22
+number_of asked.Places = 23
 
 -- the numbers that ask for something
 abbrev pub asked_by : ℕ → Option ℕ
-asked_by n = if (nat_le 1 n && nat_le n 21) then Some n else None
+asked_by n = if (nat_le 1 n && nat_le n 23) then Some n else None

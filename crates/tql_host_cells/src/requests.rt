@@ -11,9 +11,9 @@ pub struct Request {
     pub asked: u32,
     /// A column of the answer, or a place in a list, from 0.
     pub column: u32,
-    /// A row of the answer, counted from the current one, or the first byte of a text.
+    /// A row of the answer, counted from the current one, the first byte of a text, or the first byte of values.
     pub start: u64,
-    /// A number of rows.
+    /// A number of rows or of values.
     pub count: u64,
 }
 
@@ -90,6 +90,10 @@ pub enum Asked {
     Close,
     /// The number of bytes in use.
     InUse,
+    /// Runs one statement with values.
+    StepWith,
+    /// The number of places for values in a statement.
+    Places,
 }
 
 impl Asked {
@@ -119,6 +123,8 @@ impl Asked {
             19 => Asked::Open,
             20 => Asked::Close,
             21 => Asked::InUse,
+            22 => Asked::StepWith,
+            23 => Asked::Places,
             _ => return None,
         })
     }

@@ -7,6 +7,7 @@ use Rattle.tql_spec.specs.Text.{number, verb_text, wording}
 use Rattle.tql_detail.specs.declared.detail.Detail.{Detail}
 use Rattle.tql_detail.specs.declared.place.Place.{Place}
 use Rattle.tql_value.specs.Refusals.{refusal_of}
+use Rattle.tql_value.specs.declared.refusal.Refusal.{Refusal}
 use Rattle.tql_value.specs.declared.value.ResultTable.{ResultTable}
 use Rattle.tql_result.specs.Replies.{headings_of, plain_verb, table_rows}
 use Rattle.tql_result.specs.declared.reply.Reply.TheVariants.{Done, Table, Refused}
@@ -36,6 +37,10 @@ told_answer line (Some (Replied (Table t))) =
     record { kind = 2; code = 0; number = signed (length (headings_of t)); length = length (table_rows t) }
 told_answer line (Some (Replied (Refused e))) =
     record { kind = 3; code = number (refusal_of e); number = signed line; length = 0 }
+
+-- the answer that a statement is refused
+abbrev pub refused_as : Refusal → Option Answer
+refused_as e = Some (Replied (Refused e))
 
 -- whether an answer is a refusal
 abbrev pub is_refused : Option Answer → Bool

@@ -22,6 +22,7 @@ use tql_result::answer::Answer;
 use tql_result::reply::Reply;
 use tql_run::responder::Responder;
 use tql_run::session::Session;
+use tql_value::refusal::Refusal;
 use tql_value::value::{Value, View};
 
 /// The last answer of what answers statements, which a host reads part by part, and a script that the host feeds in
@@ -146,7 +147,7 @@ fn front(rows: &[Vec<Value, Memory>], count: u64) -> &[Vec<Value, Memory>]
 
 impl Cursor {
     ghost use Rattle.tql_host_cursor.specs.Cursors.{forgotten, idle, shown, IsPrintableShown};
-    ghost use Rattle.tql_host_cursor.specs.Parts.{cell_shown, gone_over, part_of, rows_asked, rows_shown};
+    ghost use Rattle.tql_host_cursor.specs.Parts.{cell_shown, gone_over, part_of, refused_as, rows_asked, rows_shown};
     ghost use Rattle.tql_host_cursor.specs.Parts.{table_of, told_answer, told_block, told_place, told_row, told_skip};
     ghost use Rattle.tql_host_cursor.specs.Parts.{with_block};
     ghost use Rattle.tql_host_cursor.specs.Moves.{AnswersText, AnswersScript, EndsScript, FeedsScript, ShowsJson};
@@ -204,6 +205,14 @@ impl Cursor {
         let answer = responder.answer(text);
         let detail = detail_of(responder, text, &answer);
         self.show(Some(answer), detail, 1)
+    }
+
+    /// Takes the answer that a statement is refused, and tells it.
+    pub fn refuse(&mut self, refusal: Refusal) -> Told
+        ensures told { result ≡ told_answer 1 (refused_as refusal) }
+        ensures new { self.new ≡ shown (refused_as refusal) None 1 self.old }
+    {
+        self.show(Some(Answer::Replied(Reply::Refused(refusal))), None, 1)
     }
 
     /// Takes bytes of a script from the front, at most 65,536, and none while answers of it are left. Tells how many,
