@@ -21,7 +21,7 @@ NO_TEXT = "piece at Holding::Nothing|Holding::Dash|Holding::Lost"
 ALLOWED = {
     ("tql_splitter/src/pending.rt", NO_TEXT): (1, "Lost is earned; no piece is asked of a text that has not begun"),
     ("tql_main/src/inputs.rt", "end_lack"): (2, "what the program takes before a run was refused"),
-    ("tql_main/src/inputs.rt", "answer_reader"): (1, "the buffer of a run was refused: its error has no other use"),
+    ("tql_main/src/inputs.rt", "answer_source"): (1, "the buffer of a run was refused: its error has no other use"),
 }
 ERRORS, VARIANTS = {"AllocError", "AllocFailed"}, {"OutOfMemory", "NoMemory", "Lost"}
 ENUMS = {"Refusal", "ParseError", "Fault", "Holding", "Piece"}

@@ -18,7 +18,7 @@ import library
 
 TOP = Path(__file__).resolve().parent.parent
 CASES = TOP / "crates" / "test_cases" / "data" / "cases"
-TOOLS = ("tql-csv", "tql-cents", "tql-timeline", "tql-export")
+TOOLS = ("tql-shell", "tql-csv", "tql-cents", "tql-timeline", "tql-export")
 PAGES = ("LANGUAGE", "QUESTIONS", "RECIPES", "ERRORS", "MOVING", "EVIDENCE", "KEEPING", "POSTGRESQL-FIRST-DAY", "OUTGROWING", "HOSTS")
 LINK = re.compile(r"\[([^\[\]]*)\]\(([^()\s]+)\)")
 RUN = re.compile(r"make run SCRIPT=([\w./-]+)")

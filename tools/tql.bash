@@ -8,7 +8,7 @@ _tql() {
         *:--separator) words='tab' ;;
         tql:--journal | tql:--verify | */tql:--journal | */tql:--verify) pattern='*.jn' ;;
         *:-c | *:--command | *:--memory | *:--key | *:--columns | *:--cents | *:--title) return ;;
-        tql:* | */tql:*) pattern='*.sql' words='--check --bail --interactive --quiet --plans --memory --format --journal --verify --command --help --version' ;;
+        tql:* | */tql:* | *tql-shell:*) pattern='*.sql' words='--check --bail --interactive --quiet --plans --echo --titles --memory --format --journal --verify --command --help --version' ;;
         *tql-csv:*) pattern='*.csv' words='--create --columns --cents --key --period --versioned --at --start --end --separator --decimal --dates
             --encoding --help' ;;
         *tql-cents:*) words='--comma --help' ;;
@@ -19,4 +19,4 @@ _tql() {
     COMPREPLY=($(compgen -W "$words" -- "$current"))
     [[ $current == -* || ${#COMPREPLY[@]} -gt 0 ]] || COMPREPLY=($(compgen -f -X "!$pattern" -- "$current") $(compgen -d -- "$current"))
 }
-complete -o filenames -F _tql tql tql-csv tql-cents tql-timeline tql-export
+complete -o filenames -F _tql tql tql-shell tql-csv tql-cents tql-timeline tql-export

@@ -13,7 +13,7 @@ from pathlib import Path
 from common import CASES, TOP, ran, tql
 import library
 
-TOOLS = ("tql-csv", "tql-cents", "tql-timeline", "tql-export")
+TOOLS = ("tql-csv", "tql-cents", "tql-timeline", "tql-export", "tql-shell")
 DOCUMENTS = ("LANGUAGE", "QUESTIONS", "RECIPES", "ERRORS", "MOVING", "EVIDENCE", "KEEPING", "POSTGRESQL-FIRST-DAY", "OUTGROWING", "HOSTS")
 LINK = re.compile(r"\]\(([^()\s#]+)(?:#[^()\s]*)?\)")
 # What is typed, and what completes the last word.

@@ -1,5 +1,5 @@
 -- What a host is told of the places for values.
-use Rattle.std.specs.Prelude.{ℕ, List, pos}
+use Rattle.std.specs.Prelude.{ℕ, List}
 use Rattle.tql_host_cells.specs.declared.requests.Told.{Told}
 use Rattle.tql_host_cells.specs.Texts.{signed}
 use Rattle.tql_places.specs.Places.{places}

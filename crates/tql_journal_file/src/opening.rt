@@ -3,7 +3,7 @@ use crate::fault::{Damage, JournalFault};
 use crate::reading::{buffers, read_file, refuse_others};
 use crate::replay::run_silently;
 use std::fs::{File, TryLockError};
-use std::io::{self, Printer, Read, Seek, SeekFrom, Write};
+use std::io::{self, Read, Seek, SeekFrom, Write};
 use std::os::unix::fs::OpenOptionsExt;
 use std::path::Path;
 use tql_journal::found::{Found, Rest};
@@ -21,14 +21,14 @@ use tql_run_forms::jsonl_form::JsonlForm;
 /// The permissions of a new journal: its owner may read and write it.
 const OWNER_ALONE: u32 = 0o600;
 
-/// The sink of a run with a journal: the file, and the standard output.
-pub type Kept<'r> = JournalSink<FileLog, StdOut<Printer<'r, HostRuntime>>>;
+/// The sink of a run with a journal: the file, and where replies go.
+pub type Kept<W> = JournalSink<FileLog, StdOut<W>>;
 
 /// A journal with which a run goes on.
 #[derive(Drop)]
-pub struct Opened<'r> {
+pub struct Opened<W: Write + Drop> {
     /// The sink that keeps what is done from now on.
-    pub sink: Kept<'r>,
+    pub sink: Kept<W>,
     /// The number of bytes that were cut off: a beginning of a statement that was never answered.
     pub torn: u64,
 }
@@ -104,19 +104,23 @@ fn run_and_mend<R: Responder>(
 }
 
 /// Returns the sink that goes on with a journal that is in the file and durable.
-fn sink_after<'r>(
-    rt: &'r HostRuntime,
+fn sink_after<W: Write + Drop>(
+    rt: &HostRuntime,
     file: File,
     found: &Found,
-) -> Result<Kept<'r>, JournalFault> {
+    replies: W,
+) -> Result<Kept<W>, JournalFault> {
     let memory = buffers(rt)?;
     let journal = Journal::new(FileLog::new(file), found.seal.copy(), memory)?;
-    let sink = JournalSink::new(journal, StdOut::new(io::writer(rt)), memory)?;
+    let sink = JournalSink::new(journal, StdOut::new(replies), memory)?;
     Ok(sink)
 }
 
 /// Ends the transaction that is open at the end of a journal, and keeps that.
-fn roll_back<R: Responder>(responder: &mut R, sink: &mut Kept<'_>) -> Result<(), JournalFault> {
+fn roll_back<R: Responder, W: Write + Drop>(
+    responder: &mut R,
+    sink: &mut Kept<W>,
+) -> Result<(), JournalFault> {
     let mut source = SliceSource::new(b"ROLLBACK;");
     match run_in(
         responder,
@@ -132,12 +136,12 @@ fn roll_back<R: Responder>(responder: &mut R, sink: &mut Kept<'_>) -> Result<(),
 }
 
 /// Returns what a run goes on with after the journal, without an open transaction.
-fn closed<'r, R: Responder>(
+fn closed<R: Responder, W: Write + Drop>(
     responder: &mut R,
-    mut sink: Kept<'r>,
+    mut sink: Kept<W>,
     found: &Found,
     is_open: bool,
-) -> Result<Opened<'r>, JournalFault> {
+) -> Result<Opened<W>, JournalFault> {
     if is_open {
         roll_back(responder, &mut sink)?;
     }
@@ -146,31 +150,33 @@ fn closed<'r, R: Responder>(
 }
 
 /// Goes on with a file in which a journal was found.
-fn go_on<'r, R: Responder>(
-    rt: &'r HostRuntime,
+fn go_on<R: Responder, W: Write + Drop>(
+    rt: &HostRuntime,
     path: &str,
     responder: &mut R,
     mut file: File,
     found: &Found,
-) -> Result<Opened<'r>, JournalFault> {
+    replies: W,
+) -> Result<Opened<W>, JournalFault> {
     let is_open = run_and_mend(rt, path, responder, &mut file, found)?;
-    let sink = sink_after(rt, file, found)?;
+    let sink = sink_after(rt, file, found, replies)?;
     closed(responder, sink, found, is_open)
 }
 
 /// Opens a journal and has a new responder run it, without replies. A file that is missing is made. A statement that
 /// was never answered is cut off at its end. A transaction that was open is rolled back, and that is kept. The file is
-/// durable then.
+/// durable then. The sink that goes on with it sends replies to the writer `replies`.
 ///
 /// # Errors
 ///
 /// Why the file cannot be used. Until its statements have run, nothing is written to it.
-pub fn open_journal<'r, R: Responder>(
-    rt: &'r HostRuntime,
+pub fn open_journal<R: Responder, W: Write + Drop>(
+    rt: &HostRuntime,
     path: &str,
     responder: &mut R,
-) -> Result<Opened<'r>, JournalFault> {
+    replies: W,
+) -> Result<Opened<W>, JournalFault> {
     let mut file = open_locked(rt, path)?;
     let found = read_file(rt, &mut file, "")?;
-    go_on(rt, path, responder, file, &found)
+    go_on(rt, path, responder, file, &found, replies)
 }

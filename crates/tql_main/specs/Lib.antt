@@ -1,3 +1,1 @@
-pub mod Prompting
-pub mod Showing
 pub mod Status

@@ -1,12 +1,13 @@
 //! What is said of a journal.
-use crate::engine::Engine;
-use crate::progress::name_of;
-use crate::shown::Shown;
 use tql_journal_file::fault::JournalFault;
 use tql_journal_file::opening::{Kept, open_journal};
 use tql_journal_file::reading::is_same_file;
 use tql_options::options::Input;
 use tql_run::runner::Fault;
+use tql_shell::engine::Engine;
+use tql_shell::progress::name_of;
+use tql_shell::settings::Replies;
+use tql_shell::shown::Shown;
 
 /// Reports why a file cannot be used as a journal.
 pub(crate) fn say_fault(rt: &impl Eprint, path: &str, fault: &JournalFault) {
@@ -43,14 +44,15 @@ fn say_cut(rt: &impl Eprint, path: &str, torn: u64) {
     }
 }
 
-/// Opens a journal, runs it on a new engine, and returns the sink that keeps what is done from then on. Reports what
-/// was cut off, or why the file cannot be used.
+/// Opens a journal, runs it on a new engine, and returns the sink that keeps what is done from then on, and sends
+/// replies to a writer. Reports what was cut off, or why the file cannot be used.
 pub(crate) fn open_kept<'r>(
     rt: &'r HostRuntime,
     path: &str,
     engine: &mut Engine,
-) -> Result<Kept<'r>, Fault> {
-    match open_journal(rt, path, engine) {
+    replies: Replies<'r>,
+) -> Result<Kept<Replies<'r>>, Fault> {
+    match open_journal(rt, path, engine, replies) {
         Ok(opened) => {
             say_cut(rt, path, opened.torn);
             Ok(opened.sink)

@@ -7,21 +7,14 @@
 //! first statement.
 #![tactic(auto)]
 
-mod complaints;
-mod engine;
 mod inputs;
 mod journal;
 mod output;
-mod plans;
-mod progress;
-mod prompts;
 mod runner;
-mod shown;
 mod status;
 mod verify;
 
 use crate::inputs::{Job, answer_job, end_lack};
-use crate::shown::{Shown, shown_words};
 use crate::status::{exit_status, line_status};
 use crate::verify::verify;
 use clap::Error;
@@ -32,6 +25,7 @@ use tql_options::joining::joined_words;
 use tql_options::options::{Clash, CommandLine, Format, command_line};
 use tql_options::seals::is_seal;
 use tql_run::runner::Fault;
+use tql_shell::shown::{Shown, shown_words};
 
 /// Reports that the word SIZE is not a number of bytes, and returns the exit status.
 fn end_size(rt: &impl Eprint, word: &str) -> u8 {
@@ -89,6 +83,8 @@ fn run_within(rt: &HostRuntime, options: &CommandLine<'_>, most: usize, format: 
             rt,
             check: options.check,
             plans: options.plans,
+            echo: options.echo,
+            titles: options.titles,
             quiet: options.quiet,
             journal: options.journal,
             bail: options.bail,

@@ -1,4 +1,4 @@
-//! The runners of an input: an engine, an engine that writes its plans, and a checker.
+//! The runners of an input: an engine, an engine that tells more than its replies, and a checker.
 ghost use Rattle.std.specs.Prelude.{List};
 ghost use Rattle.tql_spec.specs.Answer as run;
 ghost use Rattle.tql_spec.specs.Machine.{State};
@@ -7,7 +7,6 @@ ghost use Rattle.tql_run.specs.Runs.{source_change, sink_change};
 ghost use Rattle.tql_run.specs.RunsIn.{RunsIn, manner};
 ghost use Rattle.tql_run.specs.Texts.{style_after, written_after};
 
-use crate::plans::PlansTold;
 use tql_check::check::Checker;
 use tql_engine::engine::Engine;
 use tql_index::index::IntervalIndex;
@@ -17,9 +16,14 @@ use tql_run::form::Form;
 use tql_run::listener::Listener;
 use tql_run::responder::Responder;
 use tql_run::runner::{Fault, Summary};
+use tql_shell::engine::Engine as ProgramEngine;
+use tql_shell::told::Told;
 
 /// Runs an input, with the replies in a form.
 pub(crate) trait Runner: Responder {
+    /// Returns the engine, if it tells more than its replies.
+    fn told_engine(&self) -> Option<&ProgramEngine>;
+
     /// Runs an input, as `run_in` of `tql_run` does.
     ///
     /// # Errors
@@ -42,6 +46,10 @@ pub(crate) trait Runner: Responder {
 }
 
 impl<X: IntervalIndex> Runner for Engine<X> {
+    fn told_engine(&self) -> Option<&ProgramEngine> {
+        None
+    }
+
     fn run_in<I: Source<O>, O: Sink, L: Listener, F: Form>(
         &mut self,
         source: &mut I,
@@ -54,7 +62,11 @@ impl<X: IntervalIndex> Runner for Engine<X> {
     }
 }
 
-impl<E: Eprint> Runner for PlansTold<'_, E> {
+impl Runner for Told<'_> {
+    fn told_engine(&self) -> Option<&ProgramEngine> {
+        Some(self.engine())
+    }
+
     fn run_in<I: Source<O>, O: Sink, L: Listener, F: Form>(
         &mut self,
         source: &mut I,
@@ -68,6 +80,10 @@ impl<E: Eprint> Runner for PlansTold<'_, E> {
 }
 
 impl Runner for Checker {
+    fn told_engine(&self) -> Option<&ProgramEngine> {
+        None
+    }
+
     fn run_in<I: Source<O>, O: Sink, L: Listener, F: Form>(
         &mut self,
         source: &mut I,

@@ -1,12 +1,12 @@
 //! The test of a journal that is not run.
 use crate::journal::say_fault;
-use crate::shown::Shown;
 use crate::status::{exit_status, verify_status};
 use std::{io, str};
 use tql_journal::found::{Found, Rest};
 use tql_journal_file::fault::{Damage, JournalFault};
 use tql_journal_file::reading::found_in;
 use tql_run::runner::Fault;
+use tql_shell::shown::Shown;
 
 /// Prints the size of a journal and its last line. An empty file has none.
 fn print_size(rt: &impl Print, found: &Found) -> io::Result<()> {

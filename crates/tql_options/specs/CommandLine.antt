@@ -39,6 +39,14 @@ quiet_rule = record (new_rule (codes "quiet")) { long = Some (codes "quiet"); sh
 abbrev pub plans_rule : Rule
 plans_rule = record (new_rule (codes "plans")) { long = Some (codes "plans"); action = Some SetTrue }
 
+-- `--echo`
+abbrev pub echo_rule : Rule
+echo_rule = record (new_rule (codes "echo")) { long = Some (codes "echo"); action = Some SetTrue }
+
+-- `--titles`
+abbrev pub titles_rule : Rule
+titles_rule = record (new_rule (codes "titles")) { long = Some (codes "titles"); action = Some SetTrue }
+
 -- `--memory SIZE`
 abbrev pub memory_rule : Rule
 memory_rule = record (new_rule (codes "memory")) { long = Some (codes "memory"); value_names = 1 }
@@ -75,8 +83,9 @@ with_version = on_top (λ s. record s { has_version = true })
 -- `tql [OPTIONS] [SCRIPT]...`, with `--version` and, as every command, `--help`
 unfoldable pub tql_line : App
 tql_line = with_rule (with_rule (with_rule (with_rule (with_rule (with_rule (with_rule (with_rule (with_rule (with_rule
-    (with_rule (with_version (new_app (codes "tql"))) check_rule) bail_rule) interactive_rule) quiet_rule) plans_rule)
-    memory_rule) format_rule) journal_rule) verify_rule) command_rule) script_rule
+    (with_rule (with_rule (with_rule (with_version (new_app (codes "tql"))) check_rule) bail_rule) interactive_rule)
+    quiet_rule) plans_rule) echo_rule) titles_rule) memory_rule) format_rule) journal_rule) verify_rule) command_rule)
+    script_rule
 
 -- the flag that a text sets: `true` or `false`
 pub record TellsFlag (text : Option Text) (flag : Bool) : Type 0 where
@@ -98,6 +107,8 @@ pub record IsLineOf (rows : List Row) (line : CommandLine) : Type 0 where
   pub interactive : TellsFlag (one_of (codes "interactive") rows) line.interactive
   pub quiet : TellsFlag (one_of (codes "quiet") rows) line.quiet
   pub plans : TellsFlag (one_of (codes "plans") rows) line.plans
+  pub echo : TellsFlag (one_of (codes "echo") rows) line.echo
+  pub titles : TellsFlag (one_of (codes "titles") rows) line.titles
   pub memory : option_map (λ s. s.now) line.memory ≡ first_of (codes "memory") rows
   pub format : option_map (λ s. s.now) line.format ≡ first_of (codes "format") rows
   pub journal : option_map (λ s. s.now) line.journal ≡ first_of (codes "journal") rows

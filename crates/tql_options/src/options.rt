@@ -78,6 +78,10 @@ pub struct CommandLine<'a> {
     pub quiet: bool,
     /// Whether the access paths of each query are written to the standard error.
     pub plans: bool,
+    /// Whether each statement is written before its reply.
+    pub echo: bool,
+    /// Whether comments that begin with `--!` are written as titles.
+    pub titles: bool,
     /// The word SIZE: the maximal number of bytes in use. Without it there is no bound.
     pub memory: Option<&'a str>,
     /// The word FORMAT: how replies are written.
@@ -93,7 +97,7 @@ pub struct CommandLine<'a> {
 }
 
 /// Returns the format of this name.
-fn format_named(word: &str) -> Option<Format>
+pub fn format_named(word: &str) -> Option<Format>
     ensures { result ≡ named_format word.now }
 {
     match word {
@@ -226,7 +230,7 @@ const FLAG: Described<'static> = Described {
 };
 
 /// The arguments, in the order of the help.
-static ARGUMENTS: [Described<'static>; 11] = [
+static ARGUMENTS: [Described<'static>; 13] = [
     Described {
         id: "check",
         long: Some("check"),
@@ -257,6 +261,18 @@ static ARGUMENTS: [Described<'static>; 11] = [
         id: "plans",
         long: Some("plans"),
         help: "Write the access paths of each query to the standard error",
+        ..FLAG
+    },
+    Described {
+        id: "echo",
+        long: Some("echo"),
+        help: "Write each statement before its reply, in the formats table and box",
+        ..FLAG
+    },
+    Described {
+        id: "titles",
+        long: Some("titles"),
+        help: "Write comments that begin with `--!` as titles, in the formats table and box",
         ..FLAG
     },
     Described {
@@ -379,6 +395,8 @@ fn line_of<'a>(alloc: Global, matches: &ArgMatches<'a>) -> Result<CommandLine<'a
         interactive: matches.get_flag("interactive"),
         quiet: matches.get_flag("quiet"),
         plans: matches.get_flag("plans"),
+        echo: matches.get_flag("echo"),
+        titles: matches.get_flag("titles"),
         memory: matches.get_str("memory"),
         format: matches.get_str("format"),
         journal: matches.get_str("journal"),

@@ -5,7 +5,7 @@ use Rattle.std.proofs.Common.{map, take, drop}
 use Rattle.std.proofs.lemmas.Bool.Decides.{nat_tests}
 use Rattle.std.proofs.lemmas.List.{map_push}
 use Rattle.std.proofs.lemmas.Str.{IsUtf8-from_is_utf8, is_utf8-from_IsUtf8}
-use Rattle.std.specs.Prelude.{ℤ, pos, IsTrue, ◌↔◌, ◌&&◌, nat_le, option_map, option_and_then}
+use Rattle.std.specs.Prelude.{ℤ, IsTrue, ◌↔◌, ◌&&◌, nat_le, option_map, option_and_then}
 use Rattle.std.specs.Str.{is_utf8}
 use Rattle.tql_spec.specs.Datum.{Datum, Text}
 use Rattle.tql_value.specs.Points.{IsDay, IsMoment}

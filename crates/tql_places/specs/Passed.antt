@@ -1,6 +1,6 @@
 -- Values that a host passes as bytes.
 use Rattle.std.specs.Prelude.{◌≡◌, ℕ, zero, suc, ◌&&◌, ◌==◌, nat_lt, nat_le, int_le, neg_ℤ, ℤ, pos, Bool, if◌then◌else◌}
-use Rattle.std.specs.Prelude.{List, [], ◌∷◌, ◌++◌, length, map, take, drop, slice_index, Option, Some, None, option_map}
+use Rattle.std.specs.Prelude.{List, [], ◌∷◌, length, map, take, drop, slice_index, Option, Some, None, option_map}
 use Rattle.std.specs.Prelude.{option_and_then, Result, Ok, Err, Vec, All, ⊤}
 use Rattle.std.specs.Int.{w64, cast_signed, from_le_bytes}
 use Rattle.std.specs.Str.{is_utf8}

@@ -23,7 +23,7 @@ fn rows_end(count: usize) -> &'static [u8]
 }
 
 /// Pushes the line with the number of rows.
-fn push_count<S: Sink>(sink: &mut S, count: usize) -> Result<(), DeviceFault>
+pub fn push_count<S: Sink>(sink: &mut S, count: usize) -> Result<(), DeviceFault>
     ensures { Pushes (count_line count) result
         (held S.written S.kept sink.old) (held S.written S.kept sink.new) (S.failures sink.old) (S.failures sink.new) }
 {
@@ -33,7 +33,7 @@ fn push_count<S: Sink>(sink: &mut S, count: usize) -> Result<(), DeviceFault>
 }
 
 /// Pushes the line of the headings, between two lines of the border.
-fn push_head<S: Sink>(
+pub fn push_head<S: Sink>(
     sink: &mut S,
     layouts: &[Layout],
     names: &[String<Memory>],
@@ -47,7 +47,7 @@ fn push_head<S: Sink>(
 }
 
 /// Pushes a table with these column layouts.
-fn push_box<S: Sink>(
+pub fn push_box<S: Sink>(
     sink: &mut S,
     layouts: &[Layout],
     names: &[String<Memory>],

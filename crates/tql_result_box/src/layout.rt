@@ -14,7 +14,7 @@ use tql_value::value::{ResultTable, Value, View};
 
 /// The layout of a column.
 #[derive(Clone, Copy)]
-pub(crate) struct Layout {
+pub struct Layout {
     /// The maximum width of its heading and its values, in terminal columns.
     pub width: usize,
     /// Whether its first value that is not NULL is a number; None if all values are NULL.
@@ -28,7 +28,7 @@ const UNKNOWN: Layout = Layout {
 };
 
 /// Returns the layout of the first column, and those of the others.
-pub(crate) fn next_layout(layouts: &[Layout]) -> (Layout, &[Layout])
+pub fn next_layout(layouts: &[Layout]) -> (Layout, &[Layout])
     ensures first { result.0 ≡ first_layout layouts.now }
     ensures others { result.1.now ≡ drop 1 layouts.now }
 {
@@ -50,7 +50,7 @@ fn is_number(cell: View<'_>) -> Option<bool>
 }
 
 /// Returns the layout of a column after a value was added.
-fn widened(layout: Layout, cell: View<'_>) -> Layout
+pub fn widened(layout: Layout, cell: View<'_>) -> Layout
     requires { IsPrintable (datum_of_view cell) }
     ensures { result ≡ widened_by layout (datum_of_view cell.entry) }
 {
@@ -83,7 +83,7 @@ fn heading_layout(name: &str) -> Layout
 }
 
 /// Returns the layouts of columns with headings and no values. The only error is a refused allocation.
-fn heading_layouts(
+pub fn heading_layouts(
     memory: Memory,
     names: &[String<Memory>],
 ) -> Result<Vec<Layout, Memory>, AllocError>

@@ -2,6 +2,6 @@
 #![tactic(auto)]
 
 pub mod box_table;
-mod layout;
-mod lines;
-mod shown;
+pub mod layout;
+pub mod lines;
+pub mod shown;

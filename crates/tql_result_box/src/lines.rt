@@ -68,7 +68,7 @@ fn push_bars<S: Sink>(
 }
 
 /// Pushes a line of the border, given its left end, the cross between columns, and its right end.
-pub(crate) fn push_rule<S: Sink>(
+pub fn push_rule<S: Sink>(
     sink: &mut S,
     left: &str,
     cross: &str,
@@ -86,7 +86,7 @@ pub(crate) fn push_rule<S: Sink>(
 }
 
 /// Pushes a value, padded with blanks to the width of its column.
-fn push_filled<S: Sink>(
+pub fn push_filled<S: Sink>(
     sink: &mut S,
     width: usize,
     is_right: bool,
@@ -107,7 +107,7 @@ fn push_filled<S: Sink>(
 }
 
 /// Pushes a value in its column, after the border.
-fn push_boxed<S: Sink>(
+pub fn push_boxed<S: Sink>(
     sink: &mut S,
     width: usize,
     is_right: bool,
@@ -141,7 +141,7 @@ fn push_names<S: Sink>(
 }
 
 /// Pushes the line of the headings.
-pub(crate) fn push_headings<S: Sink>(
+pub fn push_headings<S: Sink>(
     sink: &mut S,
     layouts: &[Layout],
     names: &[String<Memory>],

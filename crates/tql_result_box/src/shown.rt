@@ -85,7 +85,7 @@ fn push_text<S: Sink>(sink: &mut S, text: &str) -> Result<(), DeviceFault>
 }
 
 /// Pushes a value as shown: `NULL`, a number in decimal, a text without quotes, a date, or a timestamp.
-pub(crate) fn push_shown<S: Sink>(sink: &mut S, cell: View<'_>) -> Result<(), DeviceFault>
+pub fn push_shown<S: Sink>(sink: &mut S, cell: View<'_>) -> Result<(), DeviceFault>
     requires { IsPrintable (datum_of_view cell) }
     ensures { Pushes (shown (datum_of_view cell.entry)) result
         (held S.written S.kept sink.old) (held S.written S.kept sink.new) (S.failures sink.old) (S.failures sink.new) }
@@ -122,7 +122,7 @@ fn character_width(character: char) -> usize
 }
 
 /// Returns the width of a text as shown, in terminal columns; at most 2^64 - 1.
-pub(crate) fn text_width(text: &str) -> usize
+pub fn text_width(text: &str) -> usize
     ensures { result ≡ text_width_of text.now }
 {
     let mut width = 0usize;
@@ -152,7 +152,7 @@ fn moment_width(moment: i64) -> usize
 }
 
 /// Returns the width of a value as shown, in terminal columns.
-pub(crate) fn value_width(cell: View<'_>) -> usize
+pub fn value_width(cell: View<'_>) -> usize
     requires { IsPrintable (datum_of_view cell) }
     ensures { result ≡ value_width_of (datum_of_view cell.entry) }
 {

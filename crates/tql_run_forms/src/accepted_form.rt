@@ -14,7 +14,7 @@ use tql_result::sink::Sink;
 use tql_run::form::Form;
 
 /// Pushes an answer unless it is a refusal, which has an empty text.
-pub(crate) fn push_accepted<O: Sink>(sink: &mut O, answer: &Answer) -> Result<(), DeviceFault>
+pub fn push_accepted<O: Sink>(sink: &mut O, answer: &Answer) -> Result<(), DeviceFault>
     requires { IsPrintableAnswer (answer_of answer.now) }
     ensures { Pushes (accepted_answer (answer_of answer.now)) result
         (held O.written O.kept sink.old) (held O.written O.kept sink.new) (O.failures sink.old) (O.failures sink.new) }

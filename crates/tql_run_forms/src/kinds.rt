@@ -15,7 +15,7 @@ pub(crate) fn is_table(answer: &Answer) -> bool
 }
 
 /// Whether an answer is a refusal.
-pub(crate) fn is_refused(answer: &Answer) -> bool
+pub fn is_refused(answer: &Answer) -> bool
     ensures { result ≡ refused_of (answer_of answer.now) }
 {
     matches!(answer, Answer::Replied(Reply::Refused(_)))

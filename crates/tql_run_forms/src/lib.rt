@@ -6,4 +6,4 @@ pub mod box_form;
 pub mod csv_form;
 pub mod json_form;
 pub mod jsonl_form;
-mod kinds;
+pub mod kinds;

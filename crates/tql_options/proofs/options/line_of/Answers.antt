@@ -12,6 +12,8 @@ returns c =
     let interactive = one_text-rows found (codes "interactive") in
     let quiet = one_text-rows found (codes "quiet") in
     let plans = one_text-rows found (codes "plans") in
+    let echo = one_text-rows found (codes "echo") in
+    let titles = one_text-rows found (codes "titles") in
     record {
       check = record {
         set = λ e. c.get_flag.ensures.value (check ∙ e);
@@ -32,6 +34,14 @@ returns c =
       plans = record {
         set = λ e. c.get_flag-5.ensures.value (plans ∙ e);
         clear = λ e. c.get_flag-5.ensures.other (plans ∙ e);
+      };
+      echo = record {
+        set = λ e. c.get_flag-6.ensures.value (echo ∙ e);
+        clear = λ e. c.get_flag-6.ensures.other (echo ∙ e);
+      };
+      titles = record {
+        set = λ e. c.get_flag-7.ensures.value (titles ∙ e);
+        clear = λ e. c.get_flag-7.ensures.other (titles ∙ e);
       };
       memory = c.get_str.ensures ∙ first_value-rows found (codes "memory");
       format = c.get_str-2.ensures ∙ first_value-rows found (codes "format");

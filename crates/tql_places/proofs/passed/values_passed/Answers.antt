@@ -1,4 +1,4 @@
-use Rattle.std.proofs.Common.{◌∷◌, ◌++◌, [], map, arith, subst, sym}
+use Rattle.std.proofs.Common.{map, arith, subst, sym}
 use Rattle.std.proofs.lemmas.List.Elements.{All-push}
 use Rattle.std.specs.Prelude.{All}
 use Rattle.tql_value.specs.Points.{IsPrintable}

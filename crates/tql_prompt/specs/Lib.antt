@@ -1,0 +1,5 @@
+pub mod Carets
+pub mod Commands
+pub mod Prompting
+pub mod Titles
+pub mod Values
